@@ -7,34 +7,32 @@ use Rattle.cfgx_fields.specs.Endian.{endian_rank}
 use Rattle.cfgx_fields.specs.declared.atomic.HasAtomic.{HasAtomic}
 use Rattle.cfgx_fields.specs.declared.atomic.HasAtomic.TheVariants.{IntegerSize, Pointer}
 use Rattle.cfgx_grammar.specs.Question.{Question, TargetQuestion}
+use Rattle.cfgx_parser.specs.Kinds.{kind_number}
+use Rattle.cfgx_parser.specs.declared.kinds.Kind.TheVariants as kind
 
 abbrev pub atomic_code : HasAtomic → List ℕ
 atomic_code (IntegerSize bits) = bits ∷ []
 atomic_code Pointer = []
 
--- the number of the case, and then the text or the number that it has
+-- the number of the kind, and then the text or the number that it has
 abbrev pub target_code : TargetQuestion → List ℕ
-target_code (TargetQuestion.abi text) = 0 ∷ text
-target_code (TargetQuestion.arch text) = 1 ∷ text
-target_code (TargetQuestion.endian endian) = 2 ∷ endian_rank endian ∷ []
-target_code (TargetQuestion.env text) = 3 ∷ text
-target_code (TargetQuestion.family text) = 4 ∷ text
-target_code (TargetQuestion.has_atomic width) = 5 ∷ atomic_code width
-target_code (TargetQuestion.os text) = 6 ∷ text
-target_code (TargetQuestion.panic text) = 7 ∷ text
-target_code (TargetQuestion.pointer_width width) = 8 ∷ width ∷ []
-target_code (TargetQuestion.vendor text) = 9 ∷ text
+target_code (TargetQuestion.text key text) = kind_number (kind.Text key) ∷ text
+target_code (TargetQuestion.endian endian) = kind_number kind.Endian ∷ endian_rank endian ∷ []
+target_code (TargetQuestion.has_atomic width) = kind_number kind.HasAtomic ∷ atomic_code width
+target_code (TargetQuestion.pointer_width bits) = kind_number kind.PointerWidth ∷ bits ∷ []
 
--- the number of the case, and then its texts
+-- the number of the kind, and then its texts; a question on the target has its code
 abbrev pub question_code : Question → List (List ℕ)
-question_code (Question.target question) = (0 ∷ []) ∷ target_code question ∷ []
-question_code Question.test = (1 ∷ []) ∷ []
-question_code Question.debug_assertions = (2 ∷ []) ∷ []
-question_code Question.proc_macro = (3 ∷ []) ∷ []
-question_code (Question.feature text) = (4 ∷ []) ∷ text ∷ []
-question_code (Question.target_feature text) = (5 ∷ []) ∷ text ∷ []
-question_code (Question.flag key) = (6 ∷ []) ∷ key ∷ []
-question_code (Question.key_value key value) = (7 ∷ []) ∷ key ∷ value ∷ []
+question_code (Question.target question) = target_code question ∷ []
+question_code Question.test = (kind_number kind.Test ∷ []) ∷ []
+question_code Question.debug_assertions = (kind_number kind.DebugAssertions ∷ []) ∷ []
+question_code Question.proc_macro = (kind_number kind.ProcMacro ∷ []) ∷ []
+question_code (Question.feature text) = (kind_number kind.Feature ∷ []) ∷ text ∷ []
+question_code (Question.target_feature text) =
+    (kind_number kind.TargetFeature ∷ []) ∷ text ∷ []
+question_code (Question.flag key) = (kind_number kind.Flag ∷ []) ∷ key ∷ []
+question_code (Question.key_value key value) =
+    (kind_number kind.KeyValue ∷ []) ∷ key ∷ value ∷ []
 
 -- whether two questions on the target are the same
 abbrev pub target_eq : TargetQuestion → TargetQuestion → Bool

@@ -1,8 +1,10 @@
 -- Words of the crates below for contracts of callers of `parse` and `eval`.
 pub use Rattle.cfgx_syntax.specs.Stripping.{strip}
+pub use Rattle.cfgx_fields.specs.declared.text_key.TextKey.{TextKey}
 pub use Rattle.cfgx_grammar.specs.Answer.{Answers, HasOneTree}
 pub use Rattle.cfg_expr.specs.Fold.{tree_fold}
 pub use Rattle.cfgx_grammar.specs.Grammar.{HasTree}
 pub use Rattle.cfgx_grammar.specs.Question.{Question, TargetQuestion}
 pub use Rattle.cfgx_grammar.specs.Tree.{Tree, asked}
+pub use Rattle.cfgx_parser.specs.Kinds.{kind_of, kind_number}
 pub use Rattle.cfg_expr.specs.Predicate.{question_of}

@@ -20,6 +20,7 @@ mod steps;
 use crate::error::Failure;
 use crate::memory::SmallAllocator;
 pub use cfgx_parser::function::Func;
+pub use cfgx_parser::kinds::Kind;
 use cfgx_parser::nodes::ExprNode;
 use cfgx_parser::parser::Parser;
 use cfgx_syntax::lexer::Lexer;

@@ -2,6 +2,7 @@
 
 pub use cfgx_fields::atomic::{HasAtomic, HasAtomicFailure};
 pub use cfgx_fields::endian::Endian;
+pub use cfgx_fields::text_key::TextKey;
 pub use cfgx_fields::{Abi, Arch, Env, Family, Os, Panic, Triple, Vendor};
 pub use cfgx_targets::atomics::HasAtomics;
 pub use cfgx_targets::builtins;

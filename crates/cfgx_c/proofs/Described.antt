@@ -13,18 +13,18 @@ use Rattle.cfgx_syntax.specs.Stripping.{strip}
 use Rattle.cfgx_grammar.specs.{Answer.HasOneTree, Question.Question}
 use Rattle.cfg_expr.proofs.AskedPredicates.{questions_at-kept}
 use Rattle.cfgx_parser.specs.nodes.KeepsTree.{KeepsTree, predicate_at, questions_at}
-use Rattle.cfgx_parser.specs.nodes.Located.{HasCut, ValueHasCut, at, question_at}
+use Rattle.cfgx_parser.specs.nodes.Located.{HasCut, at, question_at}
 use Rattle.cfgx_parser.specs.nodes.ReadFrom.{AreRead, inner_node}
 use Rattle.cfgx_parser.specs.nodes.WritesNodes.{NodeHasCut}
 use Rattle.cfgx_parser.specs.declared.nodes.ExprNode.{ExprNode}
 use Rattle.cfgx_parser.specs.declared.nodes.ExprNode.TheVariants as node
-use Rattle.cfgx_parser.specs.declared.nodes.InnerPredicate.{InnerPredicate}
+use Rattle.cfgx_parser.specs.declared.nodes.Located.{Located}
 use Rattle.cfgx_parser.specs.declared.nodes.Span.{Span}
 use Rattle.cfgx_c.proofs.Located.{AreInPlace-read}
 use Rattle.cfgx_c.specs.Check.{strip_offset}
 use Rattle.cfgx_c.specs.declared.predicates.CfgxPredicate.{CfgxPredicate}
 use Rattle.cfgx_c.specs.Predicates.{Describes, IsSpanOf, ListsPredicates, c_predicate, c_predicates}
-use Rattle.cfgx_c.specs.Predicates.{key_span, key_text, moved, value_span, value_text}
+use Rattle.cfgx_c.specs.Predicates.{CanBeCut, key_span, key_text, moved, value_span, value_text}
 
 -- Where the stripped text stands in the text.
 
@@ -79,7 +79,7 @@ part_of_part n offset start end text ordered within =
     ∙ ap (λ k. take (end + offset - (start + offset)) (drop k text)) place
 
 module _ (text : List ℕ) where
-  moved-span : (span : Option Span) → ValueHasCut (strip text) span
+  moved-span : (span : Option Span) → CanBeCut (strip text) span
       → let there = moved (strip_offset text) span in
       IsSpanOf text (option_map (at (strip text)) span) there.start there.end
   moved-span None cut = (refl, refl)
@@ -93,31 +93,32 @@ module _ (text : List ℕ) where
 
 -- the parts of a predicate, and where they stand
 
-key_same : (text : List ℕ) (p : InnerPredicate)
-    → option_map (at text) (key_span p) ≡ key_text (question_at text p)
+key_same : (text : List ℕ) (p : Located)
+    → option_map (at text) (key_span p.key p.asked) ≡ key_text (question_at text p)
 key_same text p = grind arith
 
-value_same : (text : List ℕ) (p : InnerPredicate)
-    → option_map (at text) (value_span p) ≡ value_text (question_at text p)
+value_same : (text : List ℕ) (p : Located)
+    → option_map (at text) (value_span p.value p.asked) ≡ value_text (question_at text p)
 value_same text p = grind arith
 
-key_cut : (text : List ℕ) (p : InnerPredicate) → HasCut text p → ValueHasCut text (key_span p)
+key_cut : (text : List ℕ) (p : Located) → HasCut text p → CanBeCut text (key_span p.key p.asked)
 key_cut text p cut = grind arith
 
-value_cut : (text : List ℕ) (p : InnerPredicate) → HasCut text p → ValueHasCut text (value_span p)
+value_cut : (text : List ℕ) (p : Located) → HasCut text p
+    → CanBeCut text (value_span p.value p.asked)
 value_cut text p cut = grind arith
 
-pub Describes-moved : (text : List ℕ) (p : InnerPredicate) → HasCut (strip text) p
+pub Describes-moved : (text : List ℕ) (p : Located) → HasCut (strip text) p
     → Describes text (question_at (strip text) p) (c_predicate (strip text) (strip_offset text) p)
 Describes-moved text p cut = record {
   kind = refl;
   number = refl;
-  key = rw (← key_same (strip text) p) (moved-span text (key_span p) (key_cut _ p cut));
-  value = rw (← value_same (strip text) p) (moved-span text (value_span p) (value_cut _ p cut));
+  key = rw (← key_same (strip text) p) (moved-span text (key_span p.key p.asked) (key_cut _ p cut));
+  value = rw (← value_same (strip text) p) (moved-span text (value_span p.value p.asked) (value_cut _ p cut));
 }
 
 -- the text can be cut at the spans of the predicate at a place
-pub HasCut-at : (text : List ℕ) (nodes : List ExprNode) (place : ℕ) (p : InnerPredicate)
+pub HasCut-at : (text : List ℕ) (nodes : List ExprNode) (place : ℕ) (p : Located)
     → AllByRecursion (NodeHasCut text) nodes → predicate_at nodes place ≡ Some p → HasCut text p
 HasCut-at text [] place p cuts is = absurd (cc)
 HasCut-at text (node.Predicate q ∷ nodes) zero p cuts is = grind arith
@@ -130,9 +131,9 @@ module _ (text : List ℕ) (nodes : List ExprNode)
   abbrev Listed : List Question → List CfgxPredicate → Type 0
   Listed = AllZip (Describes text)
 
-  one_more : (found : Option InnerPredicate) (questions : List Question)
+  one_more : (found : Option Located) (questions : List Question)
       (predicates : List CfgxPredicate)
-      → ((p : InnerPredicate) → found ≡ Some p → HasCut (strip text) p)
+      → ((p : Located) → found ≡ Some p → HasCut (strip text) p)
       → Listed questions predicates
       → Listed (cons_option (option_map (question_at (strip text)) found) questions)
       (cons_option (option_map (c_predicate (strip text) (strip_offset text)) found) predicates)

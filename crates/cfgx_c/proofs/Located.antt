@@ -16,7 +16,7 @@ use Rattle.cfgx_parser.specs.nodes.Located.{question_at}
 use Rattle.cfgx_parser.specs.nodes.Prefix.{Node, node_at, node_map, places, prefix, prefix_each}
 use Rattle.cfgx_parser.specs.nodes.ReadFrom.{AreRead, inner_node}
 use Rattle.cfgx_parser.specs.declared.nodes.ExprNode.{ExprNode}
-use Rattle.cfgx_parser.specs.declared.nodes.InnerPredicate.{InnerPredicate}
+use Rattle.cfgx_parser.specs.declared.nodes.Located.{Located}
 use Rattle.cfgx_c.specs.declared.predicates.CfgxPredicate.{CfgxPredicate}
 use Rattle.cfgx_c.specs.Check.{strip_offset}
 use Rattle.cfgx_c.specs.Predicates.{AreInPlace, c_predicate, c_predicates}
@@ -89,7 +89,7 @@ node_map-inner text [] = refl
 node_map-inner text (shown ∷ nodes) =
     cc (node_map-one text shown, node_map-inner text nodes)
 
-predicate_at-leaf : (nodes : List ExprNode) (place : ℕ) (inner : InnerPredicate)
+predicate_at-leaf : (nodes : List ExprNode) (place : ℕ) (inner : Located)
     → slice_get (map inner_node nodes) place ≡ Some (Node.leaf inner)
     → predicate_at nodes place ≡ Some inner
 predicate_at-leaf nodes place inner is = grind (arith, slice_get-map inner_node nodes place)
@@ -103,10 +103,10 @@ module _ (text : List ℕ) (nodes : List ExprNode) (asks : List ℕ) (one : HasO
     (nodes_are : map (node_at (strip text)) nodes ≡ prefix one.tree)
     (places_are : asks ≡ places 0 one.tree) (read : AreRead (strip text) (map inner_node nodes))
   where
-    abbrev shown : InnerPredicate → CfgxPredicate
+    abbrev shown : Located → CfgxPredicate
     shown = c_predicate (strip text) (strip_offset text)
 
-    listed_all : (located : Tree InnerPredicate) → prefix located ≡ map inner_node nodes
+    listed_all : (located : Tree Located) → prefix located ≡ map inner_node nodes
         → asks ≡ places 0 located
         → c_predicates (strip text) (strip_offset text) nodes asks ≡ map shown (asked located)
     listed_all located is ask =

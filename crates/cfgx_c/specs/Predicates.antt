@@ -12,41 +12,18 @@ use Rattle.cfgx_grammar.specs.Answer.{HasOneTree}
 use Rattle.cfgx_grammar.specs.Question.{Question, TargetQuestion}
 use Rattle.cfgx_grammar.specs.Tree.{Tree, asked}
 use Rattle.cfgx_parser.specs.nodes.KeepsTree.{predicate_at}
-use Rattle.cfgx_parser.specs.nodes.Located.{question_at}
+use Rattle.cfgx_parser.specs.Kinds.{kind_number, kind_of}
+use Rattle.cfgx_parser.specs.nodes.Located.{IsSpan, question_at}
 use Rattle.cfgx_parser.specs.nodes.Prefix.{node_map, prefix}
 use Rattle.cfgx_parser.specs.nodes.ReadFrom.{AreRead}
 use Rattle.cfgx_parser.specs.declared.nodes.ExprNode.{ExprNode}
 use Rattle.cfgx_parser.specs.declared.nodes.InnerPredicate.{InnerPredicate}
 use Rattle.cfgx_parser.specs.declared.nodes.InnerPredicate.TheVariants as inner
-use Rattle.cfgx_parser.specs.declared.nodes.InnerTarget.{InnerTarget}
 use Rattle.cfgx_parser.specs.declared.nodes.InnerTarget.TheVariants as target
+use Rattle.cfgx_parser.specs.declared.nodes.Located.{Located}
 use Rattle.cfgx_parser.specs.declared.nodes.Span.{Span}
 use Rattle.cfgx_c.specs.Check.{strip_offset}
 use Rattle.cfgx_c.specs.declared.predicates.CfgxPredicate.{CfgxPredicate}
-
--- the number of the kind of a predicate on the target
-abbrev pub target_kind : TargetQuestion → ℕ
-target_kind (TargetQuestion.abi text) = 8
-target_kind (TargetQuestion.arch text) = 9
-target_kind (TargetQuestion.endian order) = 10
-target_kind (TargetQuestion.env text) = 11
-target_kind (TargetQuestion.family text) = 12
-target_kind (TargetQuestion.has_atomic width) = 13
-target_kind (TargetQuestion.os text) = 14
-target_kind (TargetQuestion.panic text) = 15
-target_kind (TargetQuestion.pointer_width width) = 16
-target_kind (TargetQuestion.vendor text) = 17
-
--- the number of the kind of a predicate
-abbrev pub kind_of : Question → ℕ
-kind_of (Question.flag key) = 1
-kind_of (Question.key_value key value) = 2
-kind_of Question.test = 3
-kind_of Question.debug_assertions = 4
-kind_of Question.proc_macro = 5
-kind_of (Question.feature text) = 6
-kind_of (Question.target_feature text) = 7
-kind_of (Question.target question) = target_kind question
 
 -- the number of a byte order
 abbrev pub endian_number : Endian → ℕ
@@ -76,22 +53,9 @@ key_text (Question.flag key) = Some key
 key_text (Question.key_value key value) = Some key
 key_text _ = None
 
--- the value of a predicate on the target, if the number does not say it
-abbrev pub target_text : TargetQuestion → Option (List ℕ)
-target_text (TargetQuestion.abi text) = Some text
-target_text (TargetQuestion.arch text) = Some text
-target_text (TargetQuestion.endian order) = None
-target_text (TargetQuestion.env text) = Some text
-target_text (TargetQuestion.family text) = Some text
-target_text (TargetQuestion.has_atomic width) = None
-target_text (TargetQuestion.os text) = Some text
-target_text (TargetQuestion.panic text) = Some text
-target_text (TargetQuestion.pointer_width width) = None
-target_text (TargetQuestion.vendor text) = Some text
-
 -- the value, if there is one and the number does not say it
 abbrev pub value_text : Question → Option (List ℕ)
-value_text (Question.target question) = target_text question
+value_text (Question.target (TargetQuestion.text key text)) = Some text
 value_text (Question.feature text) = Some text
 value_text (Question.target_feature text) = Some text
 value_text (Question.key_value key value) = Some value
@@ -106,36 +70,29 @@ IsSpanOf text (Some bytes) start end = (start ≤ end) × (end ≤ length text)
 -- the predicate describes the question, with spans in the text
 pub record Describes (text : List ℕ) (question : Question) (predicate : CfgxPredicate) : Type 0
   where
-    pub kind : predicate.kind ≡ kind_of question
+    pub kind : predicate.kind ≡ kind_number (kind_of question)
     pub number : predicate.number ≡ number_of question
     pub key : IsSpanOf text (key_text question) predicate.key_start predicate.key_end
     pub value : IsSpanOf text (value_text question) predicate.value_start predicate.value_end
 
--- the span of the key of a node's predicate, if its kind does not say the key
-abbrev pub key_span : InnerPredicate → Option Span
-key_span (inner.Other key value) = Some key
-key_span _ = None
+-- the span of a predicate's key, if its kind does not say the key
+abbrev pub key_span : Span → InnerPredicate → Option Span
+key_span span inner.Flag = Some span
+key_span span inner.KeyValue = Some span
+key_span span _ = None
 
--- the span of the value of a node's predicate on the target, if the number does not say it
-abbrev pub target_span : InnerTarget → Option Span
-target_span (target.Abi span) = Some span
-target_span (target.Arch span) = Some span
-target_span (target.Endian order) = None
-target_span (target.Env span) = Some span
-target_span (target.Family span) = Some span
-target_span (target.HasAtomic width) = None
-target_span (target.Os span) = Some span
-target_span (target.Panic span) = Some span
-target_span (target.PointerWidth width) = None
-target_span (target.Vendor span) = Some span
+-- the span of a predicate's value, if there is one and the number does not say it
+abbrev pub value_span : Span → InnerPredicate → Option Span
+value_span span (inner.Target (target.Text key)) = Some span
+value_span span inner.Feature = Some span
+value_span span inner.TargetFeature = Some span
+value_span span inner.KeyValue = Some span
+value_span span _ = None
 
--- the span of the value of a node's predicate, if there is one and the number does not say it
-abbrev pub value_span : InnerPredicate → Option Span
-value_span (inner.Target question) = target_span question
-value_span (inner.Feature span) = Some span
-value_span (inner.TargetFeature span) = Some span
-value_span (inner.Other key value) = value
-value_span _ = None
+-- the text can be cut at both ends of the span, if there is one
+abbrev pub CanBeCut : List ℕ → Option Span → Type 0
+CanBeCut text None = Unit {0}
+CanBeCut text (Some span) = IsSpan text span
 
 -- the span with `offset` more bytes before it; without a span, that from 0 to 0
 abbrev pub moved : ℕ → Option Span → Span
@@ -143,21 +100,21 @@ moved offset None = record { start = 0; end = 0 }
 moved offset (Some span) = record { start = span.start + offset; end = span.end + offset }
 
 -- the predicate of a node as C sees it; `offset` bytes were stripped before the text
-abbrev pub c_predicate : List ℕ → ℕ → InnerPredicate → CfgxPredicate
+abbrev pub c_predicate : List ℕ → ℕ → Located → CfgxPredicate
 c_predicate text offset predicate = record {
-  kind = kind_of (question_at text predicate);
+  kind = kind_number (kind_of (question_at text predicate));
   number = number_of (question_at text predicate);
-  key_start = (moved offset (key_span predicate)).start;
-  key_end = (moved offset (key_span predicate)).end;
-  value_start = (moved offset (value_span predicate)).start;
-  value_end = (moved offset (value_span predicate)).end;
+  key_start = (moved offset (key_span predicate.key predicate.asked)).start;
+  key_end = (moved offset (key_span predicate.key predicate.asked)).end;
+  value_start = (moved offset (value_span predicate.value predicate.asked)).start;
+  value_end = (moved offset (value_span predicate.value predicate.asked)).end;
 }
 
 -- The predicates are those of the text's one tree, each with the spans of its own tokens. `located`
 -- is this tree with the spans of each predicate in the stripped text.
 pub record AreInPlace (text : List ℕ) (predicates : List CfgxPredicate) : Type 0 where
   pub one : HasOneTree (strip text)
-  pub located : Tree InnerPredicate
+  pub located : Tree Located
   pub questions : map (node_map (question_at (strip text))) (prefix located) ≡ prefix one.tree
   pub read : AreRead (strip text) (prefix located)
   pub listed : predicates ≡ map (c_predicate (strip text) (strip_offset text)) (asked located)

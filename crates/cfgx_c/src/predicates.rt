@@ -3,13 +3,11 @@
 ghost use Rattle.std.specs.Prelude.{◌≡◌, ◌≢◌, ◌≤◌, ◌<◌, ◌+◌, ◌^◌, ℕ, List, IfOk, length};
 ghost use Rattle.cfgx_syntax.specs.Stripping.{strip};
 ghost use Rattle.cfgx_parser.specs.nodes.KeepsTree.{predicate_at};
-ghost use Rattle.cfgx_parser.specs.nodes.Located.{HasCut, ValueHasCut, question_at};
-ghost use Rattle.cfgx_parser.specs.nodes.Located.{target_question_at};
+ghost use Rattle.cfgx_parser.specs.nodes.Located.{HasCut, question_with};
 ghost use Rattle.cfgx_c.specs.Answers.{TellsOf};
 ghost use Rattle.cfgx_c.specs.Buffer.{Fills};
-ghost use Rattle.cfgx_c.specs.Predicates.{atomic_number, c_predicate, endian_number, key_span};
-ghost use Rattle.cfgx_c.specs.Predicates.{kind_of, moved, number_of, target_kind};
-ghost use Rattle.cfgx_c.specs.Predicates.{target_span, value_span, ListsPredicates};
+ghost use Rattle.cfgx_c.specs.Predicates.{CanBeCut, ListsPredicates, atomic_number, c_predicate};
+ghost use Rattle.cfgx_c.specs.Predicates.{endian_number, key_span, moved, number_of, value_span};
 ghost use Rattle.cfgx_c.specs.Status.{done, not_utf8, wrong_use};
 ghost use Rattle.cfgx_c.specs.declared.predicates.CfgxPredicate.{CfgxPredicate};
 
@@ -18,7 +16,7 @@ use crate::fault::strip_offset;
 use crate::reading::read_condition;
 use crate::status::{DONE, OUT_OF_MEMORY};
 use cfg_expr::expr::{Condition, ConditionReader};
-use cfgx_parser::nodes::{ExprNode, InnerPredicate, InnerTarget, Span};
+use cfgx_parser::nodes::{ExprNode, InnerPredicate, InnerTarget, Located, Span};
 use cfgx_fields::atomic::HasAtomic;
 use cfgx_fields::endian::Endian;
 use std::alloc::{AllocError, Global};
@@ -43,40 +41,6 @@ pub struct CfgxPredicate {
     pub value_end: usize,
 }
 
-/// Returns the number of the kind of a predicate on the target.
-fn target_kind(target: InnerTarget) -> u32
-    ensures { (text : List ℕ) → result ≡ target_kind (target_question_at text target) }
-{
-    match target {
-        InnerTarget::Abi(_) => 8,
-        InnerTarget::Arch(_) => 9,
-        InnerTarget::Endian(_) => 10,
-        InnerTarget::Env(_) => 11,
-        InnerTarget::Family(_) => 12,
-        InnerTarget::HasAtomic(_) => 13,
-        InnerTarget::Os(_) => 14,
-        InnerTarget::Panic(_) => 15,
-        InnerTarget::PointerWidth(_) => 16,
-        InnerTarget::Vendor(_) => 17,
-    }
-}
-
-/// Returns the number of the kind of a predicate.
-fn kind_of(predicate: InnerPredicate) -> u32
-    ensures { (text : List ℕ) → result ≡ kind_of (question_at text predicate) }
-{
-    match predicate {
-        InnerPredicate::Other { value: None, .. } => 1,
-        InnerPredicate::Other { value: Some(_), .. } => 2,
-        InnerPredicate::Test => 3,
-        InnerPredicate::DebugAssertions => 4,
-        InnerPredicate::ProcMacro => 5,
-        InnerPredicate::Feature(_) => 6,
-        InnerPredicate::TargetFeature(_) => 7,
-        InnerPredicate::Target(target) => target_kind(target),
-    }
-}
-
 /// Returns the number of a byte order.
 fn endian_number(endian: Endian) -> u32
     ensures { result ≡ endian_number endian }
@@ -99,7 +63,8 @@ fn atomic_number(width: HasAtomic) -> u32
 
 /// Returns the number of a width, of an atomic or of a byte order, and 0 for every other predicate.
 fn number_of(predicate: InnerPredicate) -> u32
-    ensures { (text : List ℕ) → result ≡ number_of (question_at text predicate) }
+    ensures { (key : List ℕ) → (value : List ℕ)
+        → result ≡ number_of (question_with key value predicate) }
 {
     match predicate {
         InnerPredicate::Target(InnerTarget::Endian(endian)) => endian_number(endian),
@@ -110,46 +75,31 @@ fn number_of(predicate: InnerPredicate) -> u32
 }
 
 /// Returns the span of the key, if the kind does not say it.
-fn key_span(predicate: InnerPredicate) -> Option<Span>
-    ensures { result ≡ key_span predicate }
+fn key_span(predicate: Located) -> Option<Span>
+    ensures { result ≡ key_span predicate.key predicate.asked }
 {
-    match predicate {
-        InnerPredicate::Other { identifier, .. } => Some(identifier),
+    match predicate.asked {
+        InnerPredicate::Flag | InnerPredicate::KeyValue => Some(predicate.key),
         _ => None,
     }
 }
 
-/// Returns the span of the value of a predicate on the target, if the number does not say it.
-fn target_span(target: InnerTarget) -> Option<Span>
-    ensures { result ≡ target_span target }
-{
-    match target {
-        InnerTarget::Abi(span)
-        | InnerTarget::Arch(span)
-        | InnerTarget::Env(span)
-        | InnerTarget::Family(span)
-        | InnerTarget::Os(span)
-        | InnerTarget::Panic(span)
-        | InnerTarget::Vendor(span) => Some(span),
-        InnerTarget::Endian(_) | InnerTarget::HasAtomic(_) | InnerTarget::PointerWidth(_) => None,
-    }
-}
-
 /// Returns the span of the value, if there is one and the number does not say it.
-fn value_span(predicate: InnerPredicate) -> Option<Span>
-    ensures { result ≡ value_span predicate }
+fn value_span(predicate: Located) -> Option<Span>
+    ensures { result ≡ value_span predicate.value predicate.asked }
 {
-    match predicate {
-        InnerPredicate::Target(target) => target_span(target),
-        InnerPredicate::Feature(span) | InnerPredicate::TargetFeature(span) => Some(span),
-        InnerPredicate::Other { value, .. } => value,
+    match predicate.asked {
+        InnerPredicate::Target(InnerTarget::Text(_))
+        | InnerPredicate::Feature
+        | InnerPredicate::TargetFeature
+        | InnerPredicate::KeyValue => Some(predicate.value),
         _ => None,
     }
 }
 
 /// Returns the span with `offset` more bytes before it. Without a span, returns that from 0 to 0.
 fn moved(span: Option<Span>, offset: usize) -> Span
-    requires { (text : List ℕ) × ValueHasCut text span × (length text + offset < 2 ^ 64) }
+    requires { (text : List ℕ) × CanBeCut text span × (length text + offset < 2 ^ 64) }
     ensures { result ≡ moved offset span }
 {
     match span {
@@ -162,15 +112,15 @@ fn moved(span: Option<Span>, offset: usize) -> Span
 }
 
 /// Returns a predicate as C sees it. `offset` bytes were stripped before the text.
-fn c_predicate(predicate: InnerPredicate, offset: usize) -> CfgxPredicate
+fn c_predicate(predicate: Located, offset: usize) -> CfgxPredicate
     requires { (text : List ℕ) × HasCut text predicate × (length text + offset < 2 ^ 64) }
     ensures { (text : List ℕ) → result ≡ c_predicate text offset predicate }
 {
     let key = moved(key_span(predicate), offset);
     let value = moved(value_span(predicate), offset);
     CfgxPredicate {
-        kind: kind_of(predicate),
-        number: number_of(predicate),
+        kind: predicate.asked.kind().number(),
+        number: number_of(predicate.asked),
         key_start: key.start,
         key_end: key.end,
         value_start: value.start,
@@ -179,7 +129,7 @@ fn c_predicate(predicate: InnerPredicate, offset: usize) -> CfgxPredicate
 }
 
 /// Returns the predicate at `place` among the nodes, if there is one.
-fn predicate_at(nodes: &[ExprNode], place: usize) -> Option<InnerPredicate>
+fn predicate_at(nodes: &[ExprNode], place: usize) -> Option<Located>
     ensures { result ≡ predicate_at nodes.now place }
 {
     match nodes.get(place) {

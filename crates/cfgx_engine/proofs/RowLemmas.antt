@@ -4,6 +4,7 @@ use Rattle.std.proofs.Common.{bytes_eq, refl, ap, sym, ◌∙◌}
 use Rattle.std.{proofs.Math.Path.fun_ext, specs.declared.alloc.Global.Global}
 use Rattle.cfgx_targets.specs.Builtins.{builtin_rows}
 use Rattle.cfgx_targets.specs.{Table.row_with, declared.info.TargetInfo.TargetInfo}
+use Rattle.cfgx_fields.specs.declared.text_key.TextKey.TheVariants as keys
 use Rattle.cfgx_grammar.specs.Question.{TargetQuestion}
 use Rattle.cfg_expr.specs.Matching.{meets}
 use Rattle.cfgx_engine.specs.{Output.answer_on, Verdicts.answer_by}
@@ -41,7 +42,7 @@ builtin-same {A} triple found are is =
 -- a row answers as the same row over `Global`
 meets-same : {A : Type 0} (row : TargetInfo A) (question : TargetQuestion)
     → meets row question ≡ meets (same_row {A = A} row) question
-meets-same row (TargetQuestion.abi text) = refl
+meets-same row (TargetQuestion.text keys.Abi text) = refl
 meets-same row _ = refl
 
 pub answer_on-same : {A : Type 0} (row : TargetInfo A)

@@ -1,4 +1,5 @@
 pub mod Endian
 pub mod HasAtomic
 pub mod Number
+pub mod TextKey
 pub mod laws

@@ -11,6 +11,7 @@ pub mod endian;
 pub mod error;
 mod field;
 pub mod reading;
+pub mod text_key;
 
 pub use field::Field;
 

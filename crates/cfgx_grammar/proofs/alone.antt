@@ -17,10 +17,13 @@ use Rattle.cfgx_syntax.specs.Error.{Cause, invalid_integer, invalid_has_atomic}
 use Rattle.cfgx_fields.specs.Endian.{endian_text, endian_named}
 use Rattle.cfgx_fields.specs.HasAtomic.{IsWidth, atomic_text, atomic_named}
 use Rattle.cfgx_fields.specs.{Number.read_below, declared.atomic.HasAtomic.HasAtomic}
+use Rattle.cfgx_fields.specs.TextKey.{key_name}
+use Rattle.cfgx_fields.specs.declared.text_key.TextKey.{TextKey}
+use Rattle.cfgx_fields.specs.declared.text_key.TextKey.TheVariants as keys
 use Rattle.cfgx_fields.proofs.AtomicLemmas.{endian_named-text, atomic_named-text}
 use Rattle.cfgx_fields.proofs.NumberLemmas.{read_below-decimal}
 use Rattle.cfgx_grammar.specs.Classification.{predicate, Class, class, bare, valued, if_read}
-use Rattle.cfgx_grammar.specs.Classification.{target_feature, Rule, by_name, key_rules}
+use Rattle.cfgx_grammar.specs.Classification.{asks_for, target_feature, Rule, by_name, key_rules}
 use Rattle.cfgx_grammar.specs.Classification.{target_rules, target_class, plain}
 use Rattle.cfgx_grammar.specs.Spelling.{key_and_value, spelling}
 use Rattle.cfgx_grammar.proofs.{Answering.ReadsAs-has, accepted.tokens_of, Stripped.strip-tree}
@@ -121,11 +124,17 @@ spelt_word word value question quoted (is, long, says, spelled) =
     record { key = word; value = value; is_key = is_key; can_be_quoted = quoted; says = says } in
     record { well_formed = well_formed; spelled = spelled }
 
-spelt_family : (name : List ℕ) → HasNoQuote name
-    → IsSpelt (Question.target (TargetQuestion.family name))
+-- a text is asked for by its key
+named : (key : TextKey) (text : List ℕ) → IsWord (key_name key)
+    × (nat_lt 3 (length (key_name key)) ≡ true)
+    × (class (key_name key) (Some text) ≡ predicate (Question.target (TargetQuestion.text key text)))
 unfolding class
-spelt_family name quoted =
-    spelt_word (codes "target_family") (Some name) _ quoted ((refl, refl), refl, refl, refl)
+named key text = search rules
+
+spelt_text : (key : TextKey) (text : List ℕ) → HasNoQuote text
+    → IsSpelt (Question.target (TargetQuestion.text key text))
+spelt_text key text quoted = let (is, long, says) = named key text in
+    spelt_word (key_name key) (Some text) _ quoted (is, long, says, refl)
 
 module _ (key : List ℕ) (value : Option (List ℕ)) where
   -- a predicate of this class is spelt, or its spelling is that of the key and the value
@@ -170,6 +179,7 @@ module _ (key : List ℕ) (value : Option (List ℕ)) where
   good_target : (name v : List ℕ) → HasNoQuote v → Good (target_class name v)
   unfolding class
   good_target name v q =
+      let text : (asked : TextKey) → Good (asks_for asked v) = λ asked. inl (spelt_text asked v q) in
       let endian = good_read TargetQuestion.endian invalid_integer (endian_named v) (λ e is.
       spelt_word (codes "target_endian") (Some (endian_text e)) _ (grind arith)
       ((refl, refl), refl, rw (endian_named-text e) refl, refl)) in
@@ -183,12 +193,8 @@ module _ (key : List ℕ) (value : Option (List ℕ)) where
       spelt_word (codes "target_pointer_width") (Some (decimal n)) _ (no_quote_decimal n fits)
       ((refl, refl), refl, rw (read_below-decimal (2 ^ 8) n small fits) refl, refl)) in
       good_by_name name v _ _ tt target_rules (λ good. good)
-      (inl (spelt_word (codes "target_abi") (Some v) _ q ((refl, refl), refl, refl, refl)))
-      (inl (spelt_word (codes "target_arch") (Some v) _ q ((refl, refl), refl, refl, refl)))
-      (inl (spelt_word (codes "target_os") (Some v) _ q ((refl, refl), refl, refl, refl)))
-      (inl (spelt_family v q))
-      (inl (spelt_word (codes "target_env") (Some v) _ q ((refl, refl), refl, refl, refl)))
-      (inl (spelt_word (codes "target_vendor") (Some v) _ q ((refl, refl), refl, refl, refl)))
+      (text keys.Abi) (text keys.Arch) (text keys.Os) (text keys.Family) (text keys.Env)
+      (text keys.Vendor)
       (good_feature v q) endian atomic width
 
   good_class : CanBeQuoted value → Good (class key value)
@@ -199,15 +205,14 @@ module _ (key : List ℕ) (value : Option (List ℕ)) where
       key_rules (λ good. good)
       (good_bare (Leaf.literal true) tt value)
       (good_bare (Leaf.literal false) tt value)
-      (good_bare _ (inl (spelt_family (codes "unix") refl)) value)
-      (good_bare _ (inl (spelt_family (codes "windows") refl)) value)
+      (good_bare _ (inl (spelt_text keys.Family (codes "unix") refl)) value)
+      (good_bare _ (inl (spelt_text keys.Family (codes "windows") refl)) value)
       (good_bare _ (inl (spelt_word (codes "test") None _ tt (search rules))) value)
       (good_bare _ (inl (spelt_word (codes "debug_assertions") None _ tt (search rules))) value)
       (good_bare _ (inl (spelt_word (codes "proc_macro") None _ tt (search rules))) value)
       (good_valued _ _ (λ v q. inl (spelt_word (codes "feature") (Some v) _ q
       ((refl, refl), refl, refl, refl))) value quoted)
-      (good_valued _ _ (λ v q. inl (spelt_word (codes "panic") (Some v) _ q
-      ((refl, refl), refl, refl, refl))) value quoted)
+      (good_valued _ _ (λ v q. inl (spelt_text keys.Panic v q)) value quoted)
 
 -- The text of a key, and perhaps a value, has the one tree that is their predicate.
 

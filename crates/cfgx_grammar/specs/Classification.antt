@@ -5,6 +5,8 @@ use Rattle.std.specs.Prelude.{None, if◌then◌else◌}
 use Rattle.std.specs.{Str.bytes_eq, List.starts_with}
 use Rattle.cfgx_syntax.specs.Error.{Cause, unexpected, invalid_integer, invalid_has_atomic}
 use Rattle.cfgx_fields.specs.{Endian.endian_named, HasAtomic.atomic_named, Number.read_below}
+use Rattle.cfgx_fields.specs.declared.text_key.TextKey.{TextKey}
+use Rattle.cfgx_fields.specs.declared.text_key.TextKey.TheVariants as key
 use Rattle.cfgx_grammar.specs.Question.{Leaf, Question, TargetQuestion}
 
 -- which part of a predicate is at fault
@@ -46,8 +48,9 @@ abbrev pub target_feature : List ℕ → Class
 target_feature [] = Class.faulty (unexpected (codes "<feature>" ∷ [])) Part.of_value
 target_feature (byte ∷ bytes) = predicate (Question.target_feature (byte ∷ bytes))
 
-abbrev pub asks : TargetQuestion → Class
-asks question = predicate (Question.target question)
+-- the text that the target has for the key is asked for
+abbrev pub asks_for : TextKey → List ℕ → Class
+asks_for key value = predicate (Question.target (TargetQuestion.text key value))
 
 -- a rule of a table: a name, and what a value says with it
 pub record Rule (Value : Type 0) : Type 0 where
@@ -65,12 +68,12 @@ by_name (first ∷ rest) name value otherwise = if bytes_eq name first.name then
 
 -- the rules of keys that begin with `target_`, by the rest of the key
 abbrev pub target_rules : List (Rule (List ℕ))
-target_rules = rule (codes "abi") (λ value. asks (TargetQuestion.abi value))
-    ∷ rule (codes "arch") (λ value. asks (TargetQuestion.arch value))
-    ∷ rule (codes "os") (λ value. asks (TargetQuestion.os value))
-    ∷ rule (codes "family") (λ value. asks (TargetQuestion.family value))
-    ∷ rule (codes "env") (λ value. asks (TargetQuestion.env value))
-    ∷ rule (codes "vendor") (λ value. asks (TargetQuestion.vendor value))
+target_rules = rule (codes "abi") (asks_for key.Abi)
+    ∷ rule (codes "arch") (asks_for key.Arch)
+    ∷ rule (codes "os") (asks_for key.Os)
+    ∷ rule (codes "family") (asks_for key.Family)
+    ∷ rule (codes "env") (asks_for key.Env)
+    ∷ rule (codes "vendor") (asks_for key.Vendor)
     ∷ rule (codes "feature") target_feature
     ∷ rule (codes "endian") (λ value. if_read TargetQuestion.endian invalid_integer
     (endian_named value))
@@ -85,7 +88,7 @@ target_class name value = by_name target_rules name value
     (Class.faulty (unexpected target_names) Part.of_key)
 
 abbrev pub family : List ℕ → Leaf
-family name = Leaf.predicate (Question.target (TargetQuestion.family name))
+family name = Leaf.predicate (Question.target (TargetQuestion.text key.Family name))
 
 -- the rules of the other keys
 abbrev pub key_rules : List (Rule (Option (List ℕ)))
@@ -98,7 +101,7 @@ key_rules = rule (codes "true") (bare (Leaf.literal true))
     ∷ rule (codes "proc_macro") (bare (Leaf.predicate Question.proc_macro))
     ∷ rule (codes "feature") (valued (λ value. predicate (Question.feature value))
     (codes "= \"<feature_name>\""))
-    ∷ rule (codes "panic") (valued (λ value. asks (TargetQuestion.panic value))
+    ∷ rule (codes "panic") (valued (asks_for key.Panic)
     (codes "= \"<panic_strategy>\""))
     ∷ []
 

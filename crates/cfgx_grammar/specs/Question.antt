@@ -1,20 +1,16 @@
 -- A predicate as it is asked: what it says, without the addresses of its texts. The cases are those
--- of `Predicate` and `TargetPredicate` in the crate cfg-expr.
+-- of `Predicate` and `TargetPredicate` in the crate cfg-expr, where those with a text of a target
+-- are one case with its key.
 use Rattle.std.specs.Prelude.{ℕ, Bool, List}
 use Rattle.cfgx_fields.specs.{declared.endian.Endian.Endian, declared.atomic.HasAtomic.HasAtomic}
+use Rattle.cfgx_fields.specs.declared.text_key.TextKey.{TextKey}
 
 -- what a predicate asks of a target
 pub data TargetQuestion : Type 0 where
-  abi : List ℕ → TargetQuestion
-  arch : List ℕ → TargetQuestion
+  text : TextKey → List ℕ → TargetQuestion
   endian : Endian → TargetQuestion
-  env : List ℕ → TargetQuestion
-  family : List ℕ → TargetQuestion
   has_atomic : HasAtomic → TargetQuestion
-  os : List ℕ → TargetQuestion
-  panic : List ℕ → TargetQuestion
   pointer_width : ℕ → TargetQuestion
-  vendor : List ℕ → TargetQuestion
 
 pub data Question : Type 0 where
   target : TargetQuestion → Question

@@ -2,26 +2,20 @@
 -- value in quotes.
 use Rattle.std.specs.Prelude.{ℕ, List, ◌++◌, codes}
 use Rattle.std.specs.Fmt.{decimal}
-use Rattle.cfgx_fields.specs.{Endian.endian_text, HasAtomic.atomic_text}
+use Rattle.cfgx_fields.specs.{Endian.endian_text, HasAtomic.atomic_text, TextKey.key_name}
 use Rattle.cfgx_grammar.specs.Question.{Question, TargetQuestion}
 
 abbrev pub key_and_value : List ℕ → List ℕ → List ℕ
 key_and_value key value = key ++ (codes " = \"" ++ (value ++ codes "\""))
 
 abbrev pub target_spelling : TargetQuestion → List ℕ
-target_spelling (TargetQuestion.abi text) = key_and_value (codes "target_abi") text
-target_spelling (TargetQuestion.arch text) = key_and_value (codes "target_arch") text
+target_spelling (TargetQuestion.text key text) = key_and_value (key_name key) text
 target_spelling (TargetQuestion.endian endian) = key_and_value (codes "target_endian")
     (endian_text endian)
-target_spelling (TargetQuestion.env text) = key_and_value (codes "target_env") text
-target_spelling (TargetQuestion.family text) = key_and_value (codes "target_family") text
 target_spelling (TargetQuestion.has_atomic atomic) = key_and_value (codes "target_has_atomic")
     (atomic_text atomic)
-target_spelling (TargetQuestion.os text) = key_and_value (codes "target_os") text
-target_spelling (TargetQuestion.panic text) = key_and_value (codes "panic") text
 target_spelling (TargetQuestion.pointer_width width) = key_and_value (codes "target_pointer_width")
     (decimal width)
-target_spelling (TargetQuestion.vendor text) = key_and_value (codes "target_vendor") text
 
 abbrev pub spelling : Question → List ℕ
 spelling (Question.target question) = target_spelling question

@@ -1,4 +1,5 @@
 pub mod Innermost
+pub mod KindLemmas
 pub mod Kept
 pub mod NodeSizes
 pub mod Places

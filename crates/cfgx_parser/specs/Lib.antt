@@ -1,3 +1,4 @@
+pub mod Kinds
 pub mod Order
 pub mod nodes
 pub mod parsing

@@ -2,12 +2,14 @@
 ghost use Rattle.std.specs.Prelude.{◌≡◌, option_map};
 ghost use Rattle.cfgx_syntax.specs.Error.{cause_of};
 ghost use Rattle.cfgx_grammar.specs.FirstFault.{fault_between};
+ghost use Rattle.cfgx_parser.specs.declared.nodes.ExprNode.TheVariants as node;
 ghost use Rattle.cfgx_parser.specs.parsing.NodeState.{classified};
 ghost use Rattle.cfgx_parser.specs.parsing.Fields.{word_of, pending_of, class_result, plain_fault};
 ghost use Rattle.cfgx_parser.specs.parsing.Fields.{located_bare, located_target, located_other};
 
-use crate::nodes::{ExprNode, InnerPredicate, InnerTarget, Span};
+use crate::nodes::{ExprNode, InnerPredicate, InnerTarget, Located, Span};
 use cfgx_fields::reading::{read_endian, read_has_atomic, read_u8};
+use cfgx_fields::text_key::TextKey;
 use cfgx_syntax::error::Reason;
 
 /// A part of the text, and where it stands.
@@ -55,34 +57,48 @@ fn bare(leaf: ExprNode, value: Option<Word<'_>>) -> Result<ExprNode, Fault>
     }
 }
 
+/// Returns the node of a predicate. Without a value, `value` is the key.
+fn predicate(asked: InnerPredicate, key: Word<'_>, value: Word<'_>) -> ExprNode
+    ensures { result ≡ node.Predicate (record {
+      asked = asked;
+      key = key.entry.span;
+      value = value.entry.span;
+    }) }
+{
+    ExprNode::Predicate(Located {
+        asked,
+        key: key.span,
+        value: value.span,
+    })
+}
+
 /// Returns the predicate of a key that begins with `target_`, where `name` is the rest of the key.
 fn classify_target(name: &str, key: Word<'_>, value: Word<'_>) -> Result<ExprNode, Fault>
     ensures { class_result result ≡ located_target name.now (word_of key.entry)
         (word_of value.entry) }
 {
-    use ExprNode::Predicate;
     use InnerPredicate::{Target, TargetFeature};
     use InnerTarget::*;
-    let Word { text, span } = value;
+    let text = value.text;
     match name {
-        "abi" => Ok(Predicate(Target(Abi(span)))),
-        "arch" => Ok(Predicate(Target(Arch(span)))),
-        "os" => Ok(Predicate(Target(Os(span)))),
-        "family" => Ok(Predicate(Target(Family(span)))),
-        "env" => Ok(Predicate(Target(Env(span)))),
-        "vendor" => Ok(Predicate(Target(Vendor(span)))),
+        "abi" => Ok(predicate(Target(Text(TextKey::Abi)), key, value)),
+        "arch" => Ok(predicate(Target(Text(TextKey::Arch)), key, value)),
+        "os" => Ok(predicate(Target(Text(TextKey::Os)), key, value)),
+        "family" => Ok(predicate(Target(Text(TextKey::Family)), key, value)),
+        "env" => Ok(predicate(Target(Text(TextKey::Env)), key, value)),
+        "vendor" => Ok(predicate(Target(Text(TextKey::Vendor)), key, value)),
         "feature" if text.is_empty() => Err(value.fault(Reason::Unexpected(&["<feature>"]))),
-        "feature" => Ok(Predicate(TargetFeature(span))),
+        "feature" => Ok(predicate(TargetFeature, key, value)),
         "endian" => match read_endian(text) {
-            Some(endian) => Ok(Predicate(Target(Endian(endian)))),
+            Some(endian) => Ok(predicate(Target(Endian(endian)), key, value)),
             None => Err(value.fault(Reason::InvalidInteger)),
         },
         "has_atomic" => match read_has_atomic(text) {
-            Some(atomic) => Ok(Predicate(Target(HasAtomic(atomic)))),
+            Some(atomic) => Ok(predicate(Target(HasAtomic(atomic)), key, value)),
             None => Err(value.fault(Reason::InvalidHasAtomic)),
         },
         "pointer_width" => match read_u8(text) {
-            Some(width) => Ok(Predicate(Target(PointerWidth(width)))),
+            Some(width) => Ok(predicate(Target(PointerWidth(width)), key, value)),
             None => Err(value.fault(Reason::InvalidInteger)),
         },
         _ => Err(key.fault(Reason::Unexpected(TARGET_KEYS))),
@@ -94,15 +110,11 @@ fn classify_other(key: Word<'_>, value: Option<Word<'_>>) -> Result<ExprNode, Fa
     ensures { class_result result ≡ located_other (word_of key.entry)
         (option_map word_of value.entry) }
 {
-    let Some(name) = key.text.strip_prefix("target_") else {
-        return Ok(ExprNode::Predicate(InnerPredicate::Other {
-            identifier: key.span,
-            value: value.map(|value| value.span),
-        }));
-    };
-    match value {
-        Some(value) => classify_target(name, key, value),
-        None => Err(key.fault(Reason::Unexpected(&["= \"<target_cfg_value>\""]))),
+    match (key.text.strip_prefix("target_"), value) {
+        (Some(name), Some(value)) => classify_target(name, key, value),
+        (Some(_), None) => Err(key.fault(Reason::Unexpected(&["= \"<target_cfg_value>\""]))),
+        (None, Some(value)) => Ok(predicate(InnerPredicate::KeyValue, key, value)),
+        (None, None) => Ok(predicate(InnerPredicate::Flag, key, key)),
     }
 }
 
@@ -111,23 +123,24 @@ fn classify_other(key: Word<'_>, value: Option<Word<'_>>) -> Result<ExprNode, Fa
 pub(crate) fn classify(pending: &Pending<'_>) -> Result<ExprNode, Fault>
     ensures { class_result result ≡ classified (pending_of pending.now) }
 {
-    use ExprNode::{Literal, Predicate};
+    use ExprNode::Literal;
     use InnerPredicate::*;
+    use InnerTarget::Text;
     let Pending { key, value } = *pending;
     match key.text {
         "true" => bare(Literal(true), value),
         "false" => bare(Literal(false), value),
-        "unix" => bare(Predicate(Target(InnerTarget::Family(key.span))), value),
-        "windows" => bare(Predicate(Target(InnerTarget::Family(key.span))), value),
-        "test" => bare(Predicate(Test), value),
-        "debug_assertions" => bare(Predicate(DebugAssertions), value),
-        "proc_macro" => bare(Predicate(ProcMacro), value),
+        "unix" => bare(predicate(Target(Text(TextKey::Family)), key, key), value),
+        "windows" => bare(predicate(Target(Text(TextKey::Family)), key, key), value),
+        "test" => bare(predicate(Test, key, key), value),
+        "debug_assertions" => bare(predicate(DebugAssertions, key, key), value),
+        "proc_macro" => bare(predicate(ProcMacro, key, key), value),
         "feature" => match value {
-            Some(value) => Ok(Predicate(Feature(value.span))),
+            Some(value) => Ok(predicate(Feature, key, value)),
             None => Err(key.fault(Reason::Unexpected(&["= \"<feature_name>\""]))),
         },
         "panic" => match value {
-            Some(value) => Ok(Predicate(Target(InnerTarget::Panic(value.span)))),
+            Some(value) => Ok(predicate(Target(Text(TextKey::Panic)), key, value)),
             None => Err(key.fault(Reason::Unexpected(&["= \"<panic_strategy>\""]))),
         },
         _ => classify_other(key, value),

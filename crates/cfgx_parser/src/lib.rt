@@ -3,5 +3,6 @@
 
 mod classification;
 pub mod function;
+pub mod kinds;
 pub mod nodes;
 pub mod parser;

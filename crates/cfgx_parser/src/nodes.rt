@@ -1,9 +1,11 @@
 //! The nodes of a tree, as they are written.
-ghost use Rattle.std.specs.Prelude.{◌≡◌, ◌<◌, ◌≤◌, ◌-◌, ◌^◌, length, OnErr, OnOk, IfOk};
+ghost use Rattle.std.specs.Prelude.{◌≡◌, ◌<◌, ◌≤◌, ◌+◌, ◌-◌, ◌^◌, ℕ, List, length};
+ghost use Rattle.std.specs.Prelude.{OnErr, OnOk, IfOk};
 
 use crate::function::Func;
 use cfgx_fields::atomic::HasAtomic;
 use cfgx_fields::endian::Endian;
+use cfgx_fields::text_key::TextKey;
 use cfgx_syntax::memory::SmallAllocator;
 use smallvec::SmallVec;
 use std::alloc::AllocError;
@@ -41,33 +43,21 @@ impl From<Range<usize>> for Span {
     }
 }
 
-/// A predicate on the target, with the span of its text.
-#[derive(Clone, Copy, Debug)]
+/// What a predicate asks of a target. The text of a `TextKey` stands where its value does.
+#[derive(Clone, Copy, Debug, PartialEq, Eq)]
 pub enum InnerTarget {
-    /// `target_abi`, with its value
-    Abi(Span),
-    /// `target_arch`, with its value
-    Arch(Span),
+    /// A key whose value is any text. For `unix` and `windows` it is `Family`
+    Text(TextKey),
     /// `target_endian`
     Endian(Endian),
-    /// `target_env`, with its value
-    Env(Span),
-    /// `target_family` with its value, or `unix` or `windows`, with this key as the value
-    Family(Span),
     /// `target_has_atomic`
     HasAtomic(HasAtomic),
-    /// `target_os`, with its value
-    Os(Span),
-    /// `panic`, with its value
-    Panic(Span),
     /// `target_pointer_width`, in bits
     PointerWidth(u8),
-    /// `target_vendor`, with its value
-    Vendor(Span),
 }
 
-/// A predicate, with the spans of its parts.
-#[derive(Clone, Copy, Debug)]
+/// What a predicate asks, without its texts.
+#[derive(Clone, Copy, Debug, PartialEq, Eq)]
 pub enum InnerPredicate {
     /// A predicate on the target
     Target(InnerTarget),
@@ -77,17 +67,46 @@ pub enum InnerPredicate {
     DebugAssertions,
     /// `proc_macro`
     ProcMacro,
-    /// `feature`, with its value
-    Feature(Span),
-    /// `target_feature`, with its value
-    TargetFeature(Span),
-    /// A key without a meaning of its own
-    Other {
-        /// The key
-        identifier: Span,
-        /// Its value, without the quotes, if it has one
-        value: Option<Span>,
-    },
+    /// `feature`
+    Feature,
+    /// `target_feature`
+    TargetFeature,
+    /// A bare key without a meaning of its own
+    Flag,
+    /// A key without a meaning of its own, with a value
+    KeyValue,
+}
+
+/// A predicate where it stands in its text.
+#[derive(Clone, Copy, Debug)]
+pub struct Located {
+    /// What it asks
+    pub asked: InnerPredicate,
+    /// The span of the key
+    pub key: Span,
+    /// The span of the value, without the quotes, or that of a key without a value
+    pub value: Span,
+}
+
+impl Located {
+    ghost use Rattle.cfgx_parser.specs.nodes.Located.{HasCut, whole_span};
+
+    /// Returns the span of the whole predicate: from its key to behind the quote that ends its
+    /// value, or to the end of a key without a value.
+    pub fn span(&self) -> Span
+        requires { (text : List ℕ) × HasCut text self.now × (length text + 1 < 2 ^ 64) }
+        ensures { result ≡ whole_span self.now }
+    {
+        let end = if self.value.start == self.key.start {
+            self.key.end
+        } else {
+            self.value.end + 1
+        };
+        Span {
+            start: self.key.start,
+            end,
+        }
+    }
 }
 
 /// A node of a condition. The nodes are in source order: a function stands before its members.
@@ -101,7 +120,7 @@ pub enum ExprNode {
         len: usize,
     },
     /// A predicate
-    Predicate(InnerPredicate),
+    Predicate(Located),
     /// `true` or `false`
     Literal(bool),
 }

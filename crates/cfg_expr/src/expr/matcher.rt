@@ -8,6 +8,7 @@ ghost use Rattle.cfg_expr.specs.Predicate.{target_of};
 
 use super::TargetPredicate;
 use cfgx_fields::Field;
+use cfgx_fields::text_key::TextKey;
 use cfgx_syntax::logic::Kleene64;
 use cfgx_targets::info::TargetInfo;
 use std::alloc::{AllocError, Allocator};
@@ -35,27 +36,31 @@ impl<A: Allocator> TargetMatcher for TargetInfo<'_, A> {
     {
         use TargetPredicate::*;
         match tp {
-            Abi(abi) => has_field(&self.abi, "", abi.as_str()),
+            Abi(abi) => has_text(TextKey::Abi, &self.abi, abi.as_str()),
             Arch(arch) => self.arch.as_str() == arch.as_str(),
             Endian(endian) => self.endian == *endian,
-            Env(env) => has_field(&self.env, "", env.as_str()),
+            Env(env) => has_text(TextKey::Env, &self.env, env.as_str()),
             Family(family) => self.families.contains(family),
             HasAtomic(width) => self.has_atomics.contains(*width),
-            Os(os) => has_field(&self.os, "none", os.as_str()),
+            Os(os) => has_text(TextKey::Os, &self.os, os.as_str()),
             Panic(panic) => self.panic.as_str() == panic.as_str(),
             PointerWidth(bits) => self.pointer_width == *bits,
-            Vendor(vendor) => has_field(&self.vendor, "unknown", vendor.as_str()),
+            Vendor(vendor) => has_text(TextKey::Vendor, &self.vendor, vendor.as_str()),
         }
     }
 }
 
-// Whether `field` has the text `text`. A missing field has the text `missing`.
-fn has_field<K, A: Allocator>(field: &Option<Field<'_, K, A>>, missing: &str, text: &str) -> bool
-    ensures { result ≡ has_text field.now missing.now text.now }
+// Whether `field`, which is that of `key`, has the text `text`.
+fn has_text<K, A: Allocator>(key: TextKey, field: &Option<Field<'_, K, A>>, text: &str) -> bool
+    ensures { result ≡ has_text key field.now text.now }
 {
-    match field {
-        Some(field) => field.as_str() == text,
-        None => missing == text,
+    let own = match field {
+        Some(field) => Some(field.as_str()),
+        None => key.text_if_missing(),
+    };
+    match own {
+        Some(own) => own == text,
+        None => false,
     }
 }
 
@@ -107,19 +112,8 @@ impl<'a, A: Allocator> TargetPredicate<'a, A> {
     fn borrowed(&self) -> TargetPredicate<'_>
         ensures { target_of result ≡ target_of self.now }
     {
-        use TargetPredicate::*;
-        match self {
-            Abi(abi) => Abi(Field::new_const(abi.as_str())),
-            Arch(arch) => Arch(Field::new_const(arch.as_str())),
-            Endian(endian) => Endian(*endian),
-            Env(env) => Env(Field::new_const(env.as_str())),
-            Family(family) => Family(Field::new_const(family.as_str())),
-            HasAtomic(width) => HasAtomic(*width),
-            Os(os) => Os(Field::new_const(os.as_str())),
-            Panic(panic) => Panic(Field::new_const(panic.as_str())),
-            PointerWidth(bits) => PointerWidth(*bits),
-            Vendor(vendor) => Vendor(Field::new_const(vendor.as_str())),
-        }
+        let (asked, text) = self.parts();
+        TargetPredicate::of(asked, text)
     }
 
     /// Returns an equal predicate. A borrowed text is borrowed again and takes no memory; an owned

@@ -6,13 +6,16 @@ ghost use Rattle.std.specs.Cmp.{on_equiv};
 ghost use Rattle.std.specs.Ordering.{on};
 ghost use Rattle.cfg_expr.specs.Equality.{question_code, question_eq, target_code, target_eq};
 ghost use Rattle.cfg_expr.specs.Predicate.{question_of, target_of};
-ghost use Rattle.cfgx_parser.specs.nodes.Located.{HasCut, TargetHasCut, question_at};
-ghost use Rattle.cfgx_parser.specs.nodes.Located.{target_question_at};
+ghost use Rattle.cfgx_parser.specs.Kinds.{kind_of};
+ghost use Rattle.cfgx_parser.specs.nodes.Located.{HasCut, inner_target, question_at};
+ghost use Rattle.cfgx_parser.specs.nodes.Located.{target_text, target_with};
 
 use cfgx_fields::atomic::HasAtomic;
 use cfgx_fields::endian::Endian;
+use cfgx_fields::text_key::TextKey;
 use cfgx_fields::{Abi, Arch, Env, Family, Os, Panic, Vendor};
-use cfgx_parser::nodes::{ExprNode, InnerPredicate, InnerTarget};
+use cfgx_parser::kinds::Kind;
+use cfgx_parser::nodes::{ExprNode, InnerPredicate, InnerTarget, Located};
 use std::alloc::{Allocator, Global};
 use std::marker::Model;
 
@@ -81,20 +84,9 @@ impl<A: Allocator> PartialEq for TargetPredicate<'_, A> {
         ensures value { result ≡ target_eq (target_of self.now) (target_of other.now) }
         ensures same { IsTrue result ↔ (target_of self.now ≡ target_of other.now) }
     {
-        use TargetPredicate::*;
-        match (self, other) {
-            (Abi(one), Abi(other)) => one == other,
-            (Arch(one), Arch(other)) => one == other,
-            (Endian(one), Endian(other)) => one == other,
-            (Env(one), Env(other)) => one == other,
-            (Family(one), Family(other)) => one == other,
-            (HasAtomic(one), HasAtomic(other)) => one == other,
-            (Os(one), Os(other)) => one == other,
-            (Panic(one), Panic(other)) => one == other,
-            (PointerWidth(one), PointerWidth(other)) => one == other,
-            (Vendor(one), Vendor(other)) => one == other,
-            _ => false,
-        }
+        let (one, text) = self.parts();
+        let (other, other_text) = other.parts();
+        one == other && text == other_text
     }
 }
 
@@ -140,22 +132,47 @@ impl<A: Allocator> Eq for Predicate<'_, A> {
 }
 
 impl<'a> TargetPredicate<'a> {
-    /// Returns the predicate of a node, with its text cut out of `text`, in which it stands.
-    fn of(node: &InnerTarget, text: &'a str) -> Self
-        requires { TargetHasCut text.now node.now }
-        ensures { target_of result ≡ target_question_at text.now node.now }
+    /// Returns the predicate that asks `asked`. Its text, if its key has one, is `text`.
+    pub(super) fn of(asked: InnerTarget, text: &'a str) -> Self
+        ensures { target_of result ≡ target_with text.now asked }
     {
-        match node {
-            InnerTarget::Abi(span) => TargetPredicate::Abi(Abi::new_const(span.cut(text))),
-            InnerTarget::Arch(span) => TargetPredicate::Arch(Arch::new_const(span.cut(text))),
-            InnerTarget::Endian(endian) => TargetPredicate::Endian(*endian),
-            InnerTarget::Env(span) => TargetPredicate::Env(Env::new_const(span.cut(text))),
-            InnerTarget::Family(span) => TargetPredicate::Family(Family::new_const(span.cut(text))),
-            InnerTarget::HasAtomic(atomic) => TargetPredicate::HasAtomic(*atomic),
-            InnerTarget::Os(span) => TargetPredicate::Os(Os::new_const(span.cut(text))),
-            InnerTarget::Panic(span) => TargetPredicate::Panic(Panic::new_const(span.cut(text))),
-            InnerTarget::PointerWidth(width) => TargetPredicate::PointerWidth(*width),
-            InnerTarget::Vendor(span) => TargetPredicate::Vendor(Vendor::new_const(span.cut(text))),
+        match asked {
+            InnerTarget::Text(TextKey::Abi) => TargetPredicate::Abi(Abi::new_const(text)),
+            InnerTarget::Text(TextKey::Arch) => TargetPredicate::Arch(Arch::new_const(text)),
+            InnerTarget::Text(TextKey::Env) => TargetPredicate::Env(Env::new_const(text)),
+            InnerTarget::Text(TextKey::Family) => TargetPredicate::Family(Family::new_const(text)),
+            InnerTarget::Text(TextKey::Os) => TargetPredicate::Os(Os::new_const(text)),
+            InnerTarget::Text(TextKey::Panic) => TargetPredicate::Panic(Panic::new_const(text)),
+            InnerTarget::Text(TextKey::Vendor) => TargetPredicate::Vendor(Vendor::new_const(text)),
+            InnerTarget::Endian(endian) => TargetPredicate::Endian(endian),
+            InnerTarget::HasAtomic(width) => TargetPredicate::HasAtomic(width),
+            InnerTarget::PointerWidth(bits) => TargetPredicate::PointerWidth(bits),
+        }
+    }
+}
+
+impl<A: Allocator> TargetPredicate<'_, A> {
+    /// Returns what is asked, and the text that is asked for. For a key whose value is no text,
+    /// this is empty.
+    pub(crate) fn parts(&self) -> (InnerTarget, &str)
+        ensures asked { result.0 ≡ inner_target (target_of self.now) }
+        ensures text { result.1.now ≡ target_text (target_of self.now) }
+    {
+        match self {
+            TargetPredicate::Abi(abi) => (InnerTarget::Text(TextKey::Abi), abi.as_str()),
+            TargetPredicate::Arch(arch) => (InnerTarget::Text(TextKey::Arch), arch.as_str()),
+            TargetPredicate::Endian(endian) => (InnerTarget::Endian(*endian), ""),
+            TargetPredicate::Env(env) => (InnerTarget::Text(TextKey::Env), env.as_str()),
+            TargetPredicate::Family(family) => {
+                (InnerTarget::Text(TextKey::Family), family.as_str())
+            }
+            TargetPredicate::HasAtomic(width) => (InnerTarget::HasAtomic(*width), ""),
+            TargetPredicate::Os(os) => (InnerTarget::Text(TextKey::Os), os.as_str()),
+            TargetPredicate::Panic(panic) => (InnerTarget::Text(TextKey::Panic), panic.as_str()),
+            TargetPredicate::PointerWidth(bits) => (InnerTarget::PointerWidth(*bits), ""),
+            TargetPredicate::Vendor(vendor) => {
+                (InnerTarget::Text(TextKey::Vendor), vendor.as_str())
+            }
         }
     }
 }
@@ -163,28 +180,43 @@ impl<'a> TargetPredicate<'a> {
 impl<'a> Predicate<'a> {
     /// Returns the predicate of a node, with its texts cut out of `text`, in which it stands.
     #[inline(always)]
-    pub(super) fn of(node: &InnerPredicate, text: &'a str) -> Self
-        requires { HasCut text.now node.now }
-        ensures { question_of result ≡ question_at text.now node.now }
+    pub(super) fn of(node: Located, text: &'a str) -> Self
+        requires { HasCut text.now node }
+        ensures { question_of result ≡ question_at text.now node }
     {
-        match node {
-            InnerPredicate::Target(target) => Predicate::Target(TargetPredicate::of(target, text)),
+        let Located { asked, key, value } = node;
+        match asked {
+            InnerPredicate::Target(target) => {
+                Predicate::Target(TargetPredicate::of(target, value.cut(text)))
+            }
             InnerPredicate::Test => Predicate::Test,
             InnerPredicate::DebugAssertions => Predicate::DebugAssertions,
             InnerPredicate::ProcMacro => Predicate::ProcMacro,
-            InnerPredicate::Feature(span) => Predicate::Feature(span.cut(text)),
-            InnerPredicate::TargetFeature(span) => Predicate::TargetFeature(span.cut(text)),
-            InnerPredicate::Other {
-                identifier,
-                value: None,
-            } => Predicate::Flag(identifier.cut(text)),
-            InnerPredicate::Other {
-                identifier,
-                value: Some(value),
-            } => Predicate::KeyValue {
-                key: identifier.cut(text),
+            InnerPredicate::Feature => Predicate::Feature(value.cut(text)),
+            InnerPredicate::TargetFeature => Predicate::TargetFeature(value.cut(text)),
+            InnerPredicate::Flag => Predicate::Flag(key.cut(text)),
+            InnerPredicate::KeyValue => Predicate::KeyValue {
+                key: key.cut(text),
                 val: value.cut(text),
             },
+        }
+    }
+}
+
+impl<A: Allocator> Predicate<'_, A> {
+    /// Returns the kind of the predicate.
+    pub fn kind(&self) -> Kind
+        ensures { result ≡ kind_of (question_of self.now) }
+    {
+        match self {
+            Predicate::Target(target) => target.parts().0.kind(),
+            Predicate::Test => Kind::Test,
+            Predicate::DebugAssertions => Kind::DebugAssertions,
+            Predicate::ProcMacro => Kind::ProcMacro,
+            Predicate::Feature(_) => Kind::Feature,
+            Predicate::TargetFeature(_) => Kind::TargetFeature,
+            Predicate::Flag(_) => Kind::Flag,
+            Predicate::KeyValue { .. } => Kind::KeyValue,
         }
     }
 }
@@ -248,7 +280,7 @@ impl<'a> Iterator for Predicates<'a> {
         let (place, others) = self.places.split_first()?;
         self.places = others;
         match self.nodes.get(*place) {
-            Some(ExprNode::Predicate(node)) => Some(Predicate::of(node, self.text)),
+            Some(ExprNode::Predicate(node)) => Some(Predicate::of(*node, self.text)),
             _ => unreachable!(),
         }
     }

@@ -13,6 +13,7 @@ ghost use Rattle.cfg_expr.specs.spelling.ValueBytes.{value_bytes};
 use super::{Predicate, TargetPredicate};
 use cfgx_fields::atomic::HasAtomic;
 use cfgx_fields::endian::Endian;
+use cfgx_parser::nodes::InnerTarget;
 use std::alloc::Allocator;
 use std::io::{self, ErrorKind, Write};
 
@@ -132,19 +133,13 @@ fn target_parts<'a, A: Allocator>(target: &'a TargetPredicate<'_, A>) -> (&'stat
     ensures { key_and_value result.0.now (value_bytes result.1)
         ≡ target_spelling (target_of target.now) }
 {
-    match target {
-        TargetPredicate::Abi(abi) => ("target_abi", Value::Text(abi.as_str())),
-        TargetPredicate::Arch(arch) => ("target_arch", Value::Text(arch.as_str())),
-        TargetPredicate::Endian(endian) => ("target_endian", Value::Text(endian_name(*endian))),
-        TargetPredicate::Env(env) => ("target_env", Value::Text(env.as_str())),
-        TargetPredicate::Family(family) => ("target_family", Value::Text(family.as_str())),
-        TargetPredicate::HasAtomic(atomic) => ("target_has_atomic", atomic_value(*atomic)),
-        TargetPredicate::Os(os) => ("target_os", Value::Text(os.as_str())),
-        TargetPredicate::Panic(panic) => ("panic", Value::Text(panic.as_str())),
-        TargetPredicate::PointerWidth(bits) => {
-            ("target_pointer_width", Value::Number(u16::from(*bits)))
+    match target.parts() {
+        (InnerTarget::Text(key), text) => (key.name(), Value::Text(text)),
+        (InnerTarget::Endian(endian), _) => ("target_endian", Value::Text(endian_name(endian))),
+        (InnerTarget::HasAtomic(width), _) => ("target_has_atomic", atomic_value(width)),
+        (InnerTarget::PointerWidth(bits), _) => {
+            ("target_pointer_width", Value::Number(u16::from(bits)))
         }
-        TargetPredicate::Vendor(vendor) => ("target_vendor", Value::Text(vendor.as_str())),
     }
 }
 

@@ -4,23 +4,23 @@ ghost use Rattle.std.specs.Cmp.Rules.{comparing};
 ghost use Rattle.std.proofs.Common.{rules};
 ghost use Rattle.cfgx_syntax.specs.Lexer.{item_of};
 ghost use Rattle.cfgx_syntax.specs.Stripping.{strip};
+ghost use Rattle.cfgx_parser.specs.Kinds.{kind_of};
 ghost use Rattle.cfg_expr.specs.Predicate.{question_of};
 ghost use Rattle.cfgx_engine.specs.Facts.{IsAnswer, IsFlag, IsNamed, IsRustcFact, Names};
 ghost use Rattle.cfgx_engine.specs.Facts.{ReadsFacts, fact_text, otherwise_eq, unnamed_answer};
 ghost use Rattle.cfgx_engine.specs.internal.KeysAndValues.{AreLast, IsKey, IsKeyAt, TakesNext};
-ghost use Rattle.cfgx_engine.specs.internal.KeysAndValues.{kind_of};
-ghost use Rattle.cfgx_engine.specs.internal.Kinds.{LacksKind, kind_of_question};
+ghost use Rattle.cfgx_engine.specs.internal.KeysAndValues as token;
+ghost use Rattle.cfgx_engine.specs.internal.Kinds.{LacksKind, TellsKind};
 ghost use Rattle.cfgx_engine.specs.internal.ReadsFacts.{AddsFact, PushesText, ReadsText, accepts};
 ghost use Rattle.cfgx_engine.specs.internal.ReadsFacts.{error_at, passes_over};
 ghost use Rattle.cfgx_engine.specs.internal.Shows.{Fails};
 ghost use Rattle.cfgx_engine.specs.Readings.{ParsesAs};
 ghost use Rattle.cfgx_engine.specs.Request.{texts};
 
-use super::kinds::Kind;
 use cfg_expr::error::{Failure, ParseError};
 use cfg_expr::expr::lexer::{Lexer, LexerToken, Token};
 use cfg_expr::memory::SmallAllocator;
-use cfg_expr::{Expression, Predicate};
+use cfg_expr::{Expression, Kind, Predicate};
 use std::alloc::{AllocError, Allocator, Global};
 use std::marker::Model;
 
@@ -140,7 +140,7 @@ impl<A: SmallAllocator> Fact<A> {
     {
         match Expression::parse(alloc, text) {
             Ok(condition) => {
-                let kind = Kind::of_only(&condition);
+                let kind = only_kind(&condition);
                 Ok(Some(Fact { condition, kind }))
             }
             Err(Failure::Parse(error)) => match unaskable {
@@ -173,7 +173,7 @@ impl<A: SmallAllocator> Fact<A> {
     /// their predicates are not compared.
     #[inline(always)]
     fn names(&self, predicate: &Predicate<'_>, kind: Kind) -> bool
-        requires { kind ≡ kind_of_question (question_of predicate.now) }
+        requires { kind ≡ kind_of (question_of predicate.now) }
         ensures { IsTrue result ↔ Names self.now (question_of predicate.now) }
     {
         self.may_name(kind) && self.has(predicate)
@@ -323,7 +323,7 @@ enum Next {
 
 /// Returns what `found` is.
 fn kind_of(found: &LexerToken<'_>) -> Next
-    ensures { result ≡ kind_of (item_of found.now) }
+    ensures { result ≡ token.kind_of (item_of found.now) }
 {
     match found.token {
         Token::Key(_) => Next::Key(found.span.start),
@@ -388,12 +388,24 @@ fn is_same(named: Predicate<'_>, asked: &Predicate<'_>) -> bool
     named == *asked
 }
 
+/// Returns the kind of the predicate of a condition, or `None` if it has none or several.
+fn only_kind<A: SmallAllocator>(condition: &Expression<A>) -> Option<Kind>
+    ensures { TellsKind condition.now result }
+{
+    let mut predicates = condition.predicates();
+    if predicates.left() != 1 {
+        return None;
+    }
+    let only = predicates.next()?;
+    Some(only.kind())
+}
+
 /// Whether one of `facts` names `predicate`.
 #[inline(always)]
 fn is_named<A: SmallAllocator>(facts: &[Fact<A>], predicate: &Predicate<'_>) -> bool
     ensures { IsTrue result ↔ IsNamed facts.now (question_of predicate.now) }
 {
-    let kind = Kind::of(predicate);
+    let kind = predicate.kind();
     for fact in facts {
         if fact.names(predicate, kind) {
             return true;

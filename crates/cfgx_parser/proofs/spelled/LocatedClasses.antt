@@ -1,20 +1,19 @@
 -- The predicate of a key and a value is the question of the node that is written for it.
 use Rattle.std.proofs.Common.{◌≡◌, ℕ, List, [], ◌∷◌, Option, Some, None, option_map}
 use Rattle.std.{proofs.Common.{arith, rules, refl}, specs.List.AllByRecursion}
-use Rattle.cfgx_parser.specs.{declared.nodes.Span.Span, nodes.Located.ValueHasCut}
+use Rattle.cfgx_parser.specs.declared.nodes.Span.{Span}
 use Rattle.std.proofs.lemmas.Slice.Eq.{bytes_eq-Decides}
 use Rattle.cfgx_syntax.specs.Error.{Cause}
 use Rattle.cfgx_grammar.specs.Question.{Leaf, Question, TargetQuestion}
 use Rattle.cfgx_grammar.specs.Classification.{Class, Rule, class, by_name, target_rules, key_rules}
 use Rattle.cfgx_grammar.specs.Classification.{if_read, target_feature, target_class, other_class}
-use Rattle.cfgx_parser.specs.nodes.Located.{predicate_located, question_at, at, IsSpan, HasCut}
+use Rattle.cfgx_parser.specs.nodes.Located.{predicate_located, question_at, at}
 
 module _ (text : List ℕ) (key_span : Span) where
-  -- the node of the question names it in the text, which can be cut at the node's spans
+  -- the node of the question names it in the text
   abbrev pub Names : Option Span → Question → Type 0
   Names value_span question =
-      (question_at text (predicate_located key_span value_span question) ≡ question)
-      × HasCut text (predicate_located key_span value_span question)
+      question_at text (predicate_located key_span value_span question) ≡ question
 
   -- the node of a predicate of this class names it; a literal has no parts
   abbrev pub NamesClass : Option Span → Class → Type 0
@@ -36,25 +35,24 @@ module _ (text : List ℕ) (key_span : Span) where
       → NamesClass (Some span) (if_read ask cause x)
   names_read span ask cause x names = grind arith
 
-  names_feature : (span : Span) (value : List ℕ) → at text span ≡ value → IsSpan text span
+  names_feature : (span : Span) (value : List ℕ) → at text span ≡ value
       → NamesClass (Some span) (target_feature value)
-  names_feature span value is cut = grind arith
+  names_feature span value is = grind arith
 
-  names_target : (span : Span) (name : List ℕ) → IsSpan text span
+  names_target : (span : Span) (name : List ℕ)
       → NamesClass (Some span) (target_class name (at text span))
-  names_target span name cut = by_rules (Some span) name (at text span) _ target_rules
+  names_target span name = by_rules (Some span) name (at text span) _ target_rules
       (search (rules, names_read, names_feature)) tt
 
   names_other : (span : Option Span) (key : List ℕ) → at text key_span ≡ key
-      → IsSpan text key_span → ValueHasCut text span
       → NamesClass span (other_class key (option_map (at text) span))
-  names_other span key is key_cut cut = grind (arith, names_target)
+  names_other span key is = grind (arith, names_target)
 
-  pub NamesClass-class : (span : Option Span) → IsSpan text key_span → ValueHasCut text span
+  pub NamesClass-class : (span : Option Span)
       → NamesClass span (class (at text key_span) (option_map (at text) span))
   unfolding class
-  NamesClass-class None key_cut cut = by_rules None (at text key_span) None _ key_rules
-      (search rules) (names_other None _ refl key_cut cut)
-  NamesClass-class (Some span) key_cut cut =
+  NamesClass-class None = by_rules None (at text key_span) None _ key_rules
+      (search rules) (names_other None _ refl)
+  NamesClass-class (Some span) =
       by_rules (Some span) (at text key_span) (Some (at text span)) _ key_rules
-      (search rules) (names_other (Some span) _ refl key_cut cut)
+      (search rules) (names_other (Some span) _ refl)

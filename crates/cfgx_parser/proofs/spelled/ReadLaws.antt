@@ -15,11 +15,11 @@ use Rattle.cfgx_parser.specs.nodes.ReadFrom.{word_span}
 use Rattle.cfgx_parser.specs.parsing.NodeState.{func_of, node_builder}
 use Rattle.cfgx_parser.specs.declared.nodes.ExprNode.{ExprNode}
 use Rattle.cfgx_parser.specs.declared.nodes.ExprNode.TheVariants as node
-use Rattle.cfgx_parser.specs.declared.nodes.InnerPredicate.{InnerPredicate}
+use Rattle.cfgx_parser.specs.declared.nodes.Located.{Located}
 
 -- Nodes that were read from a part of the items.
 
-behind : (front items : List Item) (nodes : List (Node InnerPredicate)) → AreReadFrom items nodes
+behind : (front items : List Item) (nodes : List (Node Located)) → AreReadFrom items nodes
     → AreReadFrom (front ++ items) nodes
 behind front items [] read = tt
 behind front items (Node.leaf inner ∷ nodes) (before, own, after, are, is, rest) = (
@@ -33,7 +33,7 @@ behind front items (Node.leaf inner ∷ nodes) (before, own, after, are, is, res
 behind front items (Node.literal truth ∷ nodes) read = behind front items nodes read
 behind front items (Node.function func len ∷ nodes) read = behind front items nodes read
 
-both : (items others : List Item) (nodes more : List (Node InnerPredicate))
+both : (items others : List Item) (nodes more : List (Node Located))
     → AreReadFrom items nodes → AreReadFrom others more
     → AreReadFrom (items ++ others) (nodes ++ more)
 both items others [] more read rest = behind items others more rest
@@ -51,7 +51,7 @@ both items others (Node.literal truth ∷ nodes) more read rest =
 both items others (Node.function func len ∷ nodes) more read rest =
     both items others nodes more read rest
 
-pub AreReadFrom-before : (items others : List Item) (nodes : List (Node InnerPredicate))
+pub AreReadFrom-before : (items others : List Item) (nodes : List (Node Located))
     → AreReadFrom items nodes → AreReadFrom (items ++ others) nodes
 AreReadFrom-before items others nodes read =
     rw append-nil at (both items others nodes [] read tt)

@@ -9,7 +9,7 @@ use Rattle.cfgx_parser.specs.nodes.Located.{HasCut, question_at}
 use Rattle.cfgx_parser.specs.nodes.Prefix.{node_at, prefix, places}
 use Rattle.cfgx_parser.specs.nodes.ReadFrom.{AreRead, inner_node}
 use Rattle.cfgx_parser.specs.nodes.WritesNodes.{NodeHasCut}
-use Rattle.cfgx_parser.specs.declared.nodes.InnerPredicate.{InnerPredicate}
+use Rattle.cfgx_parser.specs.declared.nodes.Located.{Located}
 use Rattle.cfgx_parser.specs.declared.nodes.ExprNode.{ExprNode}
 use Rattle.cfgx_parser.specs.declared.nodes.ExprNode.TheVariants as node
 
@@ -28,13 +28,13 @@ pub record KeepsOneTree (text : List ℕ) (nodes : List ExprNode) (kept_places :
     pub keeps : KeepsTree text nodes kept_places one.tree
     pub read : AreRead text (map inner_node nodes)
 
-abbrev pub predicate_of : ExprNode → Option InnerPredicate
+abbrev pub predicate_of : ExprNode → Option Located
 predicate_of (node.Fn func len) = None
 predicate_of (node.Predicate predicate) = Some predicate
 predicate_of (node.Literal truth) = None
 
 -- the predicate at the place
-abbrev pub predicate_at : List ExprNode → ℕ → Option InnerPredicate
+abbrev pub predicate_at : List ExprNode → ℕ → Option Located
 predicate_at nodes place = option_and_then predicate_of (slice_get nodes place)
 
 -- the questions of the predicates at the places
@@ -44,7 +44,7 @@ questions_at text nodes kept_places = filter_map (λ place. option_map (question
 
 -- a predicate stands at the place, and the text can be cut at its spans
 pub record NamesPredicate (text : List ℕ) (nodes : List ExprNode) (place : ℕ) : Type 0 where
-  pub predicate : InnerPredicate
+  pub predicate : Located
   pub stands : slice_get nodes place ≡ Some (node.Predicate predicate)
   pub cut : HasCut text predicate
 
