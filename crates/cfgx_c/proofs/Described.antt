@@ -1,15 +1,11 @@
 -- The predicates of nodes describe what is asked, with spans in the text that was passed.
-use Rattle.std.proofs.Common.{◌≡◌, ℕ, zero, suc, ◌+◌, ◌-◌, ◌≤◌, Bool, true, false, ◌&&◌, List}
+use Rattle.std.proofs.Common.{◌≡◌, ℕ, zero, suc, ◌+◌, ◌-◌, ◌≤◌, List}
 use Rattle.std.proofs.Common.{[], ◌∷◌, Option, Some, None, option_map, length, map, take, drop}
 use Rattle.std.proofs.Common.{refl, sym, ap, ◌∙◌, arith, length-take, length-drop}
-use Rattle.std.proofs.lemmas.Bool.{eq-eqb, ne_eqb}
-use Rattle.std.proofs.lemmas.Bool.Decides.{Decides-eqb}
-use Rattle.std.proofs.lemmas.List.{drop-drop, drop-take, take-take, take_all}
-use Rattle.std.proofs.lemmas.List.Prefix.{front_fits}
-use Rattle.std.proofs.lemmas.Slice.Eq.{starts_is}
-use Rattle.std.specs.Prelude.{codes, slice_range, ◌==◌, if◌then◌else◌}
+use Rattle.std.proofs.lemmas.List.{drop-drop, drop-take, take-take}
+use Rattle.std.specs.Prelude.{slice_range}
 use Rattle.std.specs.List.{AllByRecursion, AllZip, cons_option}
-use Rattle.cfgx_syntax.specs.Stripping.{strip}
+use Rattle.cfgx_syntax.{proofs.Wrapping.strip-stands, specs.Stripping.{strip, strip_offset}}
 use Rattle.cfgx_grammar.specs.{Answer.HasOneTree, Question.Question}
 use Rattle.cfg_expr.proofs.AskedPredicates.{questions_at-kept}
 use Rattle.cfgx_parser.specs.nodes.KeepsTree.{KeepsTree, predicate_at, questions_at}
@@ -21,43 +17,9 @@ use Rattle.cfgx_parser.specs.declared.nodes.ExprNode.TheVariants as node
 use Rattle.cfgx_parser.specs.declared.nodes.Located.{Located}
 use Rattle.cfgx_parser.specs.declared.nodes.Span.{Span}
 use Rattle.cfgx_c.proofs.Located.{AreInPlace-read}
-use Rattle.cfgx_c.specs.Check.{strip_offset}
 use Rattle.cfgx_c.specs.declared.predicates.CfgxPredicate.{CfgxPredicate}
 use Rattle.cfgx_c.specs.Predicates.{Describes, IsSpanOf, ListsPredicates, c_predicate, c_predicates}
 use Rattle.cfgx_c.specs.Predicates.{CanBeCut, key_span, key_text, moved, value_span, value_text}
-
--- Where the stripped text stands in the text.
-
-module _ (text : List ℕ) where
-  -- these bytes stand behind the first `offset` bytes
-  abbrev pub StandsBehind : List ℕ → ℕ → Type 0
-  StandsBehind kept offset = (n : ℕ) × (kept ≡ take n (drop offset text))
-      × (length kept + offset ≤ length text)
-
-  whole : StandsBehind text (if length text == length text then 0 else 4)
-  whole = rw (eq-eqb (length text) (length text) refl)
-      (length text, sym (take_all _ text (omega arith)), omega arith)
-
-  inside : 4 ≤ length text → let kept = slice_range text 4 (length text - 1) in
-      StandsBehind kept (if length kept == length text then 0 else 4)
-  inside long =
-      let kept = slice_range text 4 (length text - 1) in
-      let shorter : length kept + 4 ≤ length text =
-      omega (arith, length-take {A = ℕ}, length-drop {A = ℕ}) in
-      rw (ne_eqb (length kept) (length text) (λ same. omega arith))
-      (length text - 1 - 4, refl, shorter)
-
-  by_test : (starts ends : Bool) → (starts ≡ true → 4 ≤ length text)
-      → let kept = if starts && ends then slice_range text 4 (length text - 1) else text in
-      StandsBehind kept (if length kept == length text then 0 else 4)
-  by_test true true long = inside (long refl)
-  by_test true false long = whole
-  by_test false ends long = whole
-
-  pub strip-stands : StandsBehind (strip text) (strip_offset text)
-  unfolding strip
-  strip-stands = by_test _ _ (λ is.
-      front_fits text (codes "cfg(") _ ((starts_is Decides-eqb text (codes "cfg(") _ refl).0 is))
 
 -- a part of a part
 part_of_part : (n offset start end : ℕ) (text : List ℕ) → start ≤ end
@@ -84,10 +46,10 @@ module _ (text : List ℕ) where
       IsSpanOf text (option_map (at (strip text)) span) there.start there.end
   moved-span None cut = (refl, refl)
   moved-span (Some span) cut =
-      let (n, is, within) = strip-stands text in (
+      let (is, within) = strip-stands text in (
         omega (arith, cut.ordered),
         omega (arith, cut.inside, within),
-        sym (ap (λ kept. at kept span) is ∙ part_of_part n (strip_offset text) span.start span.end
+        sym (ap (λ kept. at kept span) is ∙ part_of_part _ (strip_offset text) span.start span.end
             text cut.ordered (omega (arith, cut.inside, ap length is))),
       )
 

@@ -4,5 +4,4 @@ pub mod Described
 pub mod EndsLemmas
 pub mod InputLemmas
 pub mod Located
-pub mod Numbering
 pub mod Taken

@@ -4,7 +4,7 @@ use Rattle.std.proofs.Common.{◌∙◌, arith}
 use Rattle.std.proofs.lemmas.{List.length-map, Option.slice_get-map}
 use Rattle.std.specs.Prelude.{option_map}
 use Rattle.std.specs.List.{slice_get}
-use Rattle.cfgx_syntax.specs.Stripping.{strip}
+use Rattle.cfgx_syntax.specs.Stripping.{strip, strip_offset}
 use Rattle.cfgx_grammar.proofs.Alike.{Alike, AlikeEach}
 use Rattle.cfgx_grammar.specs.Answer.{HasOneTree}
 use Rattle.cfgx_grammar.specs.Tree.{Tree, Trees, asked, count}
@@ -18,7 +18,6 @@ use Rattle.cfgx_parser.specs.nodes.ReadFrom.{AreRead, inner_node}
 use Rattle.cfgx_parser.specs.declared.nodes.ExprNode.{ExprNode}
 use Rattle.cfgx_parser.specs.declared.nodes.Located.{Located}
 use Rattle.cfgx_c.specs.declared.predicates.CfgxPredicate.{CfgxPredicate}
-use Rattle.cfgx_c.specs.Check.{strip_offset}
 use Rattle.cfgx_c.specs.Predicates.{AreInPlace, c_predicate, c_predicates}
 
 -- Nodes whose images are those of a tree are those of a tree.

@@ -3,7 +3,7 @@
 use Rattle.std.specs.Prelude.{◌≡◌, ◌≤◌, ◌+◌, ℕ, List, Option, Some, None, length, map}
 use Rattle.std.specs.Prelude.{option_map, slice_range}
 use Rattle.std.specs.List.{AllZip, filter_map}
-use Rattle.cfgx_syntax.specs.Stripping.{strip}
+use Rattle.cfgx_syntax.specs.Stripping.{strip, strip_offset}
 use Rattle.cfgx_fields.specs.declared.atomic.HasAtomic.{HasAtomic}
 use Rattle.cfgx_fields.specs.declared.atomic.HasAtomic.TheVariants as atomic
 use Rattle.cfgx_fields.specs.declared.endian.Endian.{Endian}
@@ -22,7 +22,6 @@ use Rattle.cfgx_parser.specs.declared.nodes.InnerPredicate.TheVariants as inner
 use Rattle.cfgx_parser.specs.declared.nodes.InnerTarget.TheVariants as target
 use Rattle.cfgx_parser.specs.declared.nodes.Located.{Located}
 use Rattle.cfgx_parser.specs.declared.nodes.Span.{Span}
-use Rattle.cfgx_c.specs.Check.{strip_offset}
 use Rattle.cfgx_c.specs.declared.predicates.CfgxPredicate.{CfgxPredicate}
 
 -- the number of a byte order

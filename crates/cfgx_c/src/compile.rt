@@ -10,7 +10,7 @@ ghost use Rattle.cfgx_c.specs.Steps.{Compiles, c_step};
 use crate::buffer::fill_both;
 use crate::predicates::{CfgxPredicate, predicates_of};
 use crate::reading::read_condition;
-use crate::status::{DONE, OUT_OF_MEMORY};
+use crate::status::{DONE, NOT_UTF8, OUT_OF_MEMORY};
 use crate::steps::{CfgxStep, c_steps};
 use cfg_expr::expr::{Condition, ConditionReader};
 use std::alloc::{AllocError, Global};
@@ -51,6 +51,9 @@ pub extern "C" fn cfgx_compile(
 {
     *steps_needed = 0;
     *predicates_needed = 0;
+    let Ok(text) = str::from_utf8(text) else {
+        return NOT_UTF8;
+    };
     let mut reader = ConditionReader::new(alloc);
     let condition = match read_condition(&mut reader, text) {
         Ok(condition) => condition,

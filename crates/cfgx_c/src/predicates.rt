@@ -12,13 +12,13 @@ ghost use Rattle.cfgx_c.specs.Status.{done, not_utf8, wrong_use};
 ghost use Rattle.cfgx_c.specs.declared.predicates.CfgxPredicate.{CfgxPredicate};
 
 use crate::buffer::fill;
-use crate::fault::strip_offset;
 use crate::reading::read_condition;
-use crate::status::{DONE, OUT_OF_MEMORY};
+use crate::status::{DONE, NOT_UTF8, OUT_OF_MEMORY};
 use cfg_expr::expr::{Condition, ConditionReader};
 use cfgx_parser::nodes::{ExprNode, InnerPredicate, InnerTarget, Located, Span};
 use cfgx_fields::atomic::HasAtomic;
 use cfgx_fields::endian::Endian;
+use cfgx_syntax::stripping::strip;
 use std::alloc::{AllocError, Global};
 
 /// A predicate of a condition. Spans are in bytes of the text as it was passed.
@@ -144,13 +144,13 @@ fn predicate_at(nodes: &[ExprNode], place: usize) -> Option<Located>
 /// The error is that `alloc` refused the list.
 pub(crate) fn predicates_of(
     alloc: Global,
-    text: &[u8],
+    text: &str,
     condition: &Condition<'_>,
 ) -> Result<Vec<CfgxPredicate>, AllocError>
     requires { condition.now ≡ strip text.now }
     ensures { IfOk result (λ list. ListsPredicates text.now list.items) }
 {
-    let offset = strip_offset(text, condition.original());
+    let offset = strip(text).offset;
     let nodes = condition.nodes();
     let mut list = Vec::with_capacity(alloc, condition.places().len())?;
     for place in condition.places() {
@@ -181,6 +181,9 @@ pub extern "C" fn cfgx_predicates(
     ensures status { (result ≤ not_utf8) × (result ≢ wrong_use) }
 {
     *needed = 0;
+    let Ok(text) = str::from_utf8(text) else {
+        return NOT_UTF8;
+    };
     let mut reader = ConditionReader::new(alloc);
     let condition = match read_condition(&mut reader, text) {
         Ok(condition) => condition,

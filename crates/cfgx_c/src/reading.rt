@@ -115,14 +115,11 @@ pub(crate) fn read_text<'r, 'a>(
 /// The error is the status of the call.
 pub(crate) fn read_condition<'r, 'a>(
     reader: &'r mut ConditionReader<'a>,
-    text: &'a [u8],
+    text: &'a str,
 ) -> Result<Condition<'r>, u32>
-    ensures ok { IfOk result (λ condition. (condition ≡ strip text.now) × IsUtf8 text.now) }
+    ensures ok { IfOk result (λ condition. condition ≡ strip text.now) }
     ensures err { IfErr result (Refuses text.now) }
 {
-    let Ok(text) = str::from_utf8(text) else {
-        return Err(NOT_UTF8);
-    };
     match reader.read(text) {
         Ok(condition) => Ok(condition),
         Err(Failure::Parse(_)) => Err(FAULTY),

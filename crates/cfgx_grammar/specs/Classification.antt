@@ -4,6 +4,7 @@ use Rattle.std.specs.Prelude.{ℕ, true, false, List, [], ◌∷◌, ◌^◌, co
 use Rattle.std.specs.Prelude.{None, if◌then◌else◌}
 use Rattle.std.specs.{Str.bytes_eq, List.starts_with}
 use Rattle.cfgx_syntax.specs.Error.{Cause, unexpected, invalid_integer, invalid_has_atomic}
+use Rattle.cfgx_syntax.specs.Terms.{target_keys}
 use Rattle.cfgx_fields.specs.{Endian.endian_named, HasAtomic.atomic_named, Number.read_below}
 use Rattle.cfgx_fields.specs.declared.text_key.TextKey.{TextKey}
 use Rattle.cfgx_fields.specs.declared.text_key.TextKey.TheVariants as key
@@ -37,12 +38,6 @@ valued with missing (Some value) = with value
 abbrev pub if_read : {X : Type 0} → (X → TargetQuestion) → Cause → Option X → Class
 if_read ask cause None = Class.faulty cause Part.of_value
 if_read ask cause (Some x) = predicate (Question.target (ask x))
-
-abbrev pub target_names : List (List ℕ)
-target_names = codes "target_arch" ∷ codes "target_feature" ∷ codes "target_os"
-    ∷ codes "target_family" ∷ codes "target_env"
-    ∷ codes "target_endian" ∷ codes "target_has_atomic" ∷ codes "target_pointer_width"
-    ∷ codes "target_vendor" ∷ []
 
 abbrev pub target_feature : List ℕ → Class
 target_feature [] = Class.faulty (unexpected (codes "<feature>" ∷ [])) Part.of_value
@@ -85,7 +80,7 @@ target_rules = rule (codes "abi") (asks_for key.Abi)
 
 abbrev pub target_class : List ℕ → List ℕ → Class
 target_class name value = by_name target_rules name value
-    (Class.faulty (unexpected target_names) Part.of_key)
+    (Class.faulty (unexpected target_keys) Part.of_key)
 
 abbrev pub family : List ℕ → Leaf
 family name = Leaf.predicate (Question.target (TargetQuestion.text key.Family name))

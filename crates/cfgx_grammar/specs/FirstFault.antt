@@ -7,6 +7,7 @@ use Rattle.std.specs.Prelude.{◌∷◌, length, take, reverse, codes, slice_get
 use Rattle.std.specs.Prelude.{option_map, option_and_then, if◌then◌else◌}
 use Rattle.std.specs.Option.{option_or}
 use Rattle.cfgx_syntax.specs.Token.{Token}
+use Rattle.cfgx_syntax.specs.Terms as terms
 use Rattle.cfgx_syntax.specs.Items.{Item, Ending, AreItems, lexical}
 use Rattle.cfgx_syntax.specs.Error.{Cause, Fault, unexpected, unopened_parens, unclosed_parens}
 use Rattle.cfgx_syntax.specs.Error.{invalid_not, empty, multiple_root_predicates}
@@ -100,7 +101,7 @@ lacks_value (Some token) = is_kind Kind.equals (kind_of token)
 -- follows
 abbrev pub unclosed_fault : ℕ → Item → Option Item → Fault
 unclosed_fault len name (Some paren) = fault_between unclosed_parens paren.start len
-unclosed_fault len name None = fault_between (unexpected (codes "(" ∷ [])) name.start name.end
+unclosed_fault len name None = fault_between (unexpected terms.after_function) name.start name.end
 
 -- the fault of an open function, by the place of its name
 abbrev pub open_fault : ℕ → List Item → ℕ → Option Fault
@@ -112,7 +113,7 @@ open_fault len items function = option_map
 -- the last one is `=`
 abbrev pub value_fault : ℕ → List Item → Option Fault
 value_fault len items = when (lacks_value (last_token items))
-    (fault_between (unexpected (codes "\"<value>\"" ∷ [])) len len)
+    (fault_between (unexpected terms.value) len len)
 
 -- a function is open; the innermost one counts
 abbrev pub unclosed_innermost : ℕ → List Item → Option Fault

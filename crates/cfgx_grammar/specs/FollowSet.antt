@@ -2,6 +2,7 @@
 use Rattle.std.specs.Prelude.{ℕ, Bool, true, false, List, [], ◌∷◌, codes, Option, Some, None}
 use Rattle.std.specs.List.{list_any}
 use Rattle.cfgx_syntax.specs.Token.{Token}
+use Rattle.cfgx_syntax.specs.Terms as terms
 
 -- the kinds of tokens; a key and the name of a function are of one kind, and begin a member
 pub data Kind : Type 0 where
@@ -50,12 +51,11 @@ next last token = takes last (kind_of token)
 
 -- the terms that a fault there says were expected; the last case is the name of a function
 abbrev pub expected : Option Token → List (List ℕ)
-expected None = codes "<key>" ∷ codes "all" ∷ codes "any" ∷ codes "not" ∷ []
-expected (Some Token.open_paren) = codes "<key>" ∷ codes ")" ∷ codes "all" ∷ codes "any"
-    ∷ codes "not" ∷ []
-expected (Some Token.comma) = codes ")" ∷ codes "<key>" ∷ []
-expected (Some (Token.key _)) = codes "=" ∷ codes "," ∷ codes ")" ∷ []
-expected (Some Token.equals) = codes "\"" ∷ []
-expected (Some (Token.value _)) = codes "," ∷ codes ")" ∷ []
-expected (Some Token.close_paren) = codes ")" ∷ codes "," ∷ []
-expected _ = codes "(" ∷ []
+expected None = terms.member
+expected (Some Token.open_paren) = terms.after_paren
+expected (Some Token.comma) = terms.after_comma
+expected (Some (Token.key _)) = terms.after_key
+expected (Some Token.equals) = terms.after_equals
+expected (Some (Token.value _)) = terms.after_value
+expected (Some Token.close_paren) = terms.after_closing
+expected _ = terms.after_function

@@ -10,7 +10,7 @@ ghost use Rattle.cfgx_parser.specs.parsing.Fields.{located_bare, located_target,
 use crate::nodes::{ExprNode, InnerPredicate, InnerTarget, Located, Span};
 use cfgx_fields::reading::{read_endian, read_has_atomic, read_u8};
 use cfgx_fields::text_key::TextKey;
-use cfgx_syntax::error::Reason;
+use cfgx_syntax::error::{Reason, terms};
 
 /// A part of the text, and where it stands.
 #[derive(Clone, Copy)]
@@ -53,7 +53,7 @@ fn bare(leaf: ExprNode, value: Option<Word<'_>>) -> Result<ExprNode, Fault>
 {
     match value {
         None => Ok(leaf),
-        Some(value) => Err(value.fault(Reason::Unexpected(&[]))),
+        Some(value) => Err(value.fault(Reason::Unexpected(terms::NOTHING))),
     }
 }
 
@@ -87,7 +87,7 @@ fn classify_target(name: &str, key: Word<'_>, value: Word<'_>) -> Result<ExprNod
         "family" => Ok(predicate(Target(Text(TextKey::Family)), key, value)),
         "env" => Ok(predicate(Target(Text(TextKey::Env)), key, value)),
         "vendor" => Ok(predicate(Target(Text(TextKey::Vendor)), key, value)),
-        "feature" if text.is_empty() => Err(value.fault(Reason::Unexpected(&["<feature>"]))),
+        "feature" if text.is_empty() => Err(value.fault(Reason::Unexpected(terms::FEATURE))),
         "feature" => Ok(predicate(TargetFeature, key, value)),
         "endian" => match read_endian(text) {
             Some(endian) => Ok(predicate(Target(Endian(endian)), key, value)),
@@ -101,7 +101,7 @@ fn classify_target(name: &str, key: Word<'_>, value: Word<'_>) -> Result<ExprNod
             Some(width) => Ok(predicate(Target(PointerWidth(width)), key, value)),
             None => Err(value.fault(Reason::InvalidInteger)),
         },
-        _ => Err(key.fault(Reason::Unexpected(TARGET_KEYS))),
+        _ => Err(key.fault(Reason::Unexpected(terms::TARGET_KEYS))),
     }
 }
 
@@ -112,7 +112,7 @@ fn classify_other(key: Word<'_>, value: Option<Word<'_>>) -> Result<ExprNode, Fa
 {
     match (key.text.strip_prefix("target_"), value) {
         (Some(name), Some(value)) => classify_target(name, key, value),
-        (Some(_), None) => Err(key.fault(Reason::Unexpected(&["= \"<target_cfg_value>\""]))),
+        (Some(_), None) => Err(key.fault(Reason::Unexpected(terms::TARGET_VALUE))),
         (None, Some(value)) => Ok(predicate(InnerPredicate::KeyValue, key, value)),
         (None, None) => Ok(predicate(InnerPredicate::Flag, key, key)),
     }
@@ -137,25 +137,12 @@ pub(crate) fn classify(pending: &Pending<'_>) -> Result<ExprNode, Fault>
         "proc_macro" => bare(predicate(ProcMacro, key, key), value),
         "feature" => match value {
             Some(value) => Ok(predicate(Feature, key, value)),
-            None => Err(key.fault(Reason::Unexpected(&["= \"<feature_name>\""]))),
+            None => Err(key.fault(Reason::Unexpected(terms::FEATURE_NAME))),
         },
         "panic" => match value {
             Some(value) => Ok(predicate(Target(Text(TextKey::Panic)), key, value)),
-            None => Err(key.fault(Reason::Unexpected(&["= \"<panic_strategy>\""]))),
+            None => Err(key.fault(Reason::Unexpected(terms::PANIC_STRATEGY))),
         },
         _ => classify_other(key, value),
     }
 }
-
-/// The keys that begin with `target_`, as the fault of an unknown one lists them.
-const TARGET_KEYS: &[&str] = &[
-    "target_arch",
-    "target_feature",
-    "target_os",
-    "target_family",
-    "target_env",
-    "target_endian",
-    "target_has_atomic",
-    "target_pointer_width",
-    "target_vendor",
-];

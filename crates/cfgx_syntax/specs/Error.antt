@@ -40,25 +40,26 @@ cause_of reason.MultipleRootPredicates = multiple_root_predicates
 cause_of reason.InvalidHasAtomic = invalid_has_atomic
 cause_of reason.UnknownBuiltin = unknown_builtin
 
--- the index of a cause among the cases
-abbrev pub cause_place : Cause → ℕ
-cause_place (invalid_not _) = 0
-cause_place invalid_characters = 1
-cause_place unclosed_parens = 2
-cause_place unopened_parens = 3
-cause_place unclosed_quotes = 4
-cause_place unopened_quotes = 5
-cause_place empty = 6
-cause_place (unexpected _) = 7
-cause_place invalid_integer = 8
-cause_place multiple_root_predicates = 9
-cause_place invalid_has_atomic = 10
-cause_place unknown_builtin = 11
-
--- the number of a cause, or 0 if it has none
+-- the number of a cause, in the order of the cases from 1 on
 abbrev pub cause_number : Cause → ℕ
-cause_number (invalid_not found) = found
-cause_number _ = 0
+cause_number (invalid_not _) = 1
+cause_number invalid_characters = 2
+cause_number unclosed_parens = 3
+cause_number unopened_parens = 4
+cause_number unclosed_quotes = 5
+cause_number unopened_quotes = 6
+cause_number empty = 7
+cause_number (unexpected _) = 8
+cause_number invalid_integer = 9
+cause_number multiple_root_predicates = 10
+cause_number invalid_has_atomic = 11
+cause_number unknown_builtin = 12
+
+-- the number of members of a `not` that has too few or too many of them, and 0 for every other
+-- cause
+abbrev pub cause_members : Cause → ℕ
+cause_members (invalid_not found) = found
+cause_members _ = 0
 
 -- the terms of a cause, if it has any
 abbrev pub cause_terms : Cause → List (List ℕ)
@@ -69,10 +70,10 @@ cause_terms _ = []
 abbrev pub texts_eq : List (List ℕ) → List (List ℕ) → Bool
 texts_eq = pointwise bytes_eq
 
--- whether two causes have the same case, number and terms
+-- whether two causes have the same number, members and terms
 abbrev pub cause_eq : Cause → Cause → Bool
-cause_eq = eq_of_both (on cause_place nat_eq)
-    (eq_of_both (on cause_number nat_eq) (on cause_terms texts_eq))
+cause_eq = eq_of_both (on cause_number nat_eq)
+    (eq_of_both (on cause_members nat_eq) (on cause_terms texts_eq))
 
 -- a term between back quotes
 abbrev pub quoted : List ℕ → List ℕ

@@ -6,7 +6,7 @@ use Rattle.std.specs.Prelude.{Option, Some, None, codes, drop, encode_utf8, leng
 use Rattle.std.specs.Char.{IsScalar, is_not_whitespace, char_set_contains}
 use Rattle.std.specs.{Str.NoCharPasses, List.AllByRecursion}
 use Rattle.cfgx_syntax.specs.Cut.{CanBeCut}
-use Rattle.cfgx_syntax.specs.Error.{Cause, Fault, unexpected}
+use Rattle.cfgx_syntax.specs.{Error.Cause, Error.Fault, Error.unexpected, Terms.member}
 use Rattle.cfgx_syntax.specs.Token.{Token, starts_word, Spells, IsWhole, HasNoQuote}
 
 -- a token, and the bytes `start..end` of the text that spell it
@@ -86,7 +86,7 @@ pub record HasOneTokenList (text : List ℕ) : Type 0 where
 
 -- the cause where no token can start: the terms with which a condition may begin were expected
 abbrev pub expects_token : Cause
-expects_token = unexpected (codes "<key>" ∷ codes "all" ∷ codes "any" ∷ codes "not" ∷ [])
+expects_token = unexpected member
 
 -- the fault of an ending: none for white space, one byte where no token can start, or all bytes
 -- from a quote that is never closed

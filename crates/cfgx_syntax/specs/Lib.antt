@@ -7,6 +7,7 @@ pub mod LexerState
 pub mod Logic
 pub mod Size
 pub mod Stripping
+pub mod Terms
 pub mod Token
 pub mod TokenEquality
 pub mod laws

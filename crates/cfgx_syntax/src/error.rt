@@ -7,6 +7,8 @@ ghost use Rattle.cfgx_syntax.specs.Error.{cause_of, fault_in, marks, more_terms_
 ghost use Rattle.cfgx_syntax.specs.Error.{opening_words, quoted, texts_eq, unexpected_text};
 ghost use Rattle.cfgx_syntax.specs.Error.{FailsWith};
 
+pub mod terms;
+
 use std::alloc::{AllocError, AllocFailed, Allocator, Global};
 use std::fmt;
 use std::ops::Range;
@@ -85,25 +87,9 @@ impl PartialEq for Reason {
         ensures value { result ≡ cause_eq (cause_of self.now) (cause_of other.now) }
         ensures same { IsTrue result ↔ (cause_of self.now ≡ cause_of other.now) }
     {
-        match self {
-            Reason::InvalidNot(found) => {
-                matches!(other, Reason::InvalidNot(others) if found == others)
-            }
-            Reason::InvalidCharacters => matches!(other, Reason::InvalidCharacters),
-            Reason::UnclosedParens => matches!(other, Reason::UnclosedParens),
-            Reason::UnopenedParens => matches!(other, Reason::UnopenedParens),
-            Reason::UnclosedQuotes => matches!(other, Reason::UnclosedQuotes),
-            Reason::UnopenedQuotes => matches!(other, Reason::UnopenedQuotes),
-            Reason::Empty => matches!(other, Reason::Empty),
-            Reason::Unexpected(terms) => match other {
-                Reason::Unexpected(others) => are_same_texts(terms, others),
-                _ => false,
-            },
-            Reason::InvalidInteger => matches!(other, Reason::InvalidInteger),
-            Reason::MultipleRootPredicates => matches!(other, Reason::MultipleRootPredicates),
-            Reason::InvalidHasAtomic => matches!(other, Reason::InvalidHasAtomic),
-            Reason::UnknownBuiltin => matches!(other, Reason::UnknownBuiltin),
-        }
+        self.number() == other.number()
+            && self.members() == other.members()
+            && are_same_texts(self.terms(), other.terms())
     }
 }
 
@@ -231,7 +217,60 @@ impl<T: Drop, A: Allocator> From<AllocFailed<T>> for Failure<A> {
 }
 
 impl Reason {
-    ghost use Rattle.cfgx_syntax.specs.Error.{cause_of, description_of};
+    ghost use Rattle.cfgx_syntax.specs.Error.{cause_members, cause_number, cause_of, cause_terms};
+    ghost use Rattle.cfgx_syntax.specs.Error.{description_of};
+    ghost use Rattle.cfgx_syntax.specs.Terms.{terms_number};
+
+    /// Returns the number of the reason: that of its variant, from 1 on.
+    pub fn number(self) -> u32
+        ensures { result ≡ cause_number (cause_of self) }
+    {
+        match self {
+            Reason::InvalidNot(_) => 1,
+            Reason::InvalidCharacters => 2,
+            Reason::UnclosedParens => 3,
+            Reason::UnopenedParens => 4,
+            Reason::UnclosedQuotes => 5,
+            Reason::UnopenedQuotes => 6,
+            Reason::Empty => 7,
+            Reason::Unexpected(_) => 8,
+            Reason::InvalidInteger => 9,
+            Reason::MultipleRootPredicates => 10,
+            Reason::InvalidHasAtomic => 11,
+            Reason::UnknownBuiltin => 12,
+        }
+    }
+
+    /// Returns the number of members of an `InvalidNot`, and 0 for every other reason.
+    pub fn members(self) -> usize
+        ensures { result ≡ cause_members (cause_of self) }
+    {
+        match self {
+            Reason::InvalidNot(members) => members,
+            _ => 0,
+        }
+    }
+
+    // Returns the terms of an `Unexpected`, and none for every other reason.
+    fn terms(self) -> &'static [&'static str]
+        ensures { map (λ t. t.now) result.now ≡ cause_terms (cause_of self) }
+    {
+        match self {
+            Reason::Unexpected(terms) => terms,
+            _ => &[],
+        }
+    }
+
+    /// Returns the number of the list of terms of an `Unexpected`, from 1 on in the order of
+    /// RULES, and 0 for every other list and reason.
+    pub fn terms_number(self) -> u32
+        ensures { result ≡ terms_number (cause_of self) }
+    {
+        match self {
+            Reason::Unexpected(terms) => terms::number_of(terms),
+            _ => 0,
+        }
+    }
 
     // Returns the reason in a few words, without its number and its terms.
     fn description(self) -> &'static str

@@ -13,7 +13,7 @@ ghost use Rattle.cfgx_syntax.specs.Token.{continues_word, starts_word, IsWord, S
 
 mod bytes;
 
-use crate::error::{Failure, Reason};
+use crate::error::{Failure, Reason, terms};
 use crate::stripping::strip;
 use bytes::{Class, Run, first_class, quote_in};
 use std::alloc::{Allocator, Global};
@@ -189,7 +189,7 @@ fn first_token(text: &str, class: Class) -> Result<(Token<'_>, usize), (Reason, 
         Class::Comma => Ok((Token::Comma, 1)),
         Class::Quote => value_token(text),
         Class::Digit | Class::Blank | Class::Other => {
-            Err((Reason::Unexpected(&["<key>", "all", "any", "not"]), 1))
+            Err((Reason::Unexpected(terms::MEMBER), 1))
         }
     }
 }
@@ -225,13 +225,13 @@ impl<'a, A: Allocator> Model for Lexer<'a, A> {
 }
 
 impl<'a, A: Allocator> Lexer<'a, A> {
-    /// Returns a lexer of `strip(text)`. It allocates nothing.
+    /// Returns a lexer of the stripped `text`. It allocates nothing.
     #[tactic(auto, using(crate::proofs::Finding::one_list))]
     pub fn new(alloc: A, text: &'a str) -> Self
         ensures starts { result ≡ starting (strip text.now) }
         ensures one { HasOneTokenList (strip text.now) }
     {
-        let original = strip(text);
+        let original = strip(text).text;
         Lexer {
             original,
             inner: original,

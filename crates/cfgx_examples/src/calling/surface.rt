@@ -82,7 +82,10 @@ fn is_linux(os: &Os<'_>) -> bool {
 
 fn text_is_stripped(alloc: Global) -> bool {
     let lexer = Lexer::new(alloc, "cfg(unix)");
-    lexer.original() == "unix" && strip("cfg(unix)") == "unix" && strip("unix") == "unix"
+    let (wrapped, bare) = (strip("cfg(unix)"), strip("unix"));
+    lexer.original() == "unix"
+        && (wrapped.text == "unix" && wrapped.offset == 4)
+        && (bare.text == "unix" && bare.offset == 0)
 }
 
 fn system_is_copied(alloc: Global) -> Result<bool, AllocError> {

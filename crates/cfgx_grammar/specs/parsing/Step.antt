@@ -3,6 +3,7 @@
 use Rattle.std.specs.Prelude.{ℕ, ◌+◌, ◌-◌, ◌==◌, Bool, true, List, [], ◌∷◌, codes, length, Option}
 use Rattle.std.specs.Prelude.{Some, None, option_map, Result, Ok, Err, if◌then◌else◌}
 use Rattle.cfgx_syntax.specs.Token.{Token}
+use Rattle.cfgx_syntax.specs.Terms as terms
 use Rattle.cfgx_syntax.specs.Items.{Item, Ending, lexical}
 use Rattle.cfgx_syntax.specs.Error.{Fault, unexpected, unopened_parens, unclosed_parens}
 use Rattle.cfgx_syntax.specs.Error.{invalid_not, empty, multiple_root_predicates}
@@ -55,7 +56,7 @@ module _ {M : Type 0} where
   -- the fault of a function that is open at the end of a text of `len` bytes
   abbrev pub unclosed : ℕ → Open M → Option ℕ → Fault
   unclosed len f (Some place) = fault_between unclosed_parens place len
-  unclosed len f None = fault_between (unexpected (codes "(" ∷ [])) f.start f.end
+  unclosed len f None = fault_between (unexpected terms.after_function) f.start f.end
 
 -- Predicates.
 
@@ -162,7 +163,7 @@ module _ {W M L : Type 0} {builder : Builder W M L} where
   -- the state at the end of a text of `len` bytes, or the fault there
   abbrev pub conclude : Option Token → ℕ → State builder → Result (State builder) Fault
   conclude last len s = if lacks_value last
-      then Err (fault_between (unexpected (codes "\"<value>\"" ∷ [])) len len)
+      then Err (fault_between (unexpected terms.value) len len)
       else concluded_by len s s.stack
 
   -- the state at the end of the tokens, or the fault there; `None` if white space alone is left

@@ -11,9 +11,9 @@ returns-clause-done c is =
     let steps = c.in-Ok-compiled.step_list in
     let list = c.in-Ok-predicates_of.list in
     let found = subst (λ text. (one : HasOneTree text)
-    × (steps.items ≡ map c_step (steps_of one.tree))) c.in-Ok.ensures.ok.0
+    × (steps.items ≡ map c_step (steps_of one.tree))) c.in-Ok-read_nodes.ensures.ok
     c.in-Ok-compiled.ensures in
-    record {
+    rw (← c.in-Ok.ensures.cases.0) (record {
       one = found.0;
       predicates = list.items;
       lists = c.in-Ok-predicates_of.ensures;
@@ -25,4 +25,4 @@ returns-clause-done c is =
       steps_needed_is = c.len.ensures ∙ steps.ok.0 ∙ ap length found.1
           ∙ length-map (steps_of found.0.tree) c_step;
       predicates_needed_is = c.len-2.ensures ∙ list.ok.0;
-    }
+    })

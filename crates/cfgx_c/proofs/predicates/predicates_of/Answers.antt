@@ -1,19 +1,18 @@
 -- The nodes and the places are those of the text's one tree, with spans in the stripped text.
-use Rattle.std.proofs.Common.{◌∙◌, arith, sym, ap}
+use Rattle.std.proofs.Common.{◌∙◌, arith, sym, ap, length}
 use Rattle.std.proofs.lemmas.{Grind.common_steps, List.take_all, List.Elements.filter_map-append}
 use Rattle.cfgx_syntax.specs.Stripping.{strip}
 use Rattle.cfgx_grammar.proofs.Answering.{only_tree}
 use Rattle.cfgx_parser.specs.nodes.{KeepsTree.KeepsTree, Prefix.places}
-use Rattle.cfgx_c.proofs.Described.{HasCut-at, ListsPredicates-kept, strip-stands}
+use Rattle.cfgx_c.proofs.Described.{HasCut-at, ListsPredicates-kept}
 use Rattle.cfgx_c.proofs.predicates.predicates_of.Goals as goal
 
 pub c_predicate-requires : goal.c_predicate-requires
 c_predicate-requires c =
-    let (n, is, within) = strip-stands c.args.text.now in
     let cuts = rw c.requires at c.nodes-nodes.ensures.cuts in (
       strip c.args.text.now,
       HasCut-at _ c.nodes-nodes.result.now _ _ cuts (sym c.in-Some.ensures),
-      omega (arith, c.strip_offset-offset.ensures, within),
+      omega (arith, ap length c.strip-offset.ensures.text, c.strip-offset.ensures.stands.1),
     )
 
 pub loop-place-preserved : goal.loop-place-preserved
@@ -33,4 +32,4 @@ returns c =
     } in
     let listed = ListsPredicates-kept c.args.text.now shown every nodes.0 keeps
     (rw c.requires at c.nodes-nodes.ensures.read) in
-    rw (c.loop-place.invariant, all, c.strip_offset-offset.ensures) listed
+    rw (c.loop-place.invariant, all, c.strip-offset.ensures.offset) listed
