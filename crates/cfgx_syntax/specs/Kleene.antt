@@ -1,6 +1,6 @@
 -- Sixty-four answers that may be unknown, side by side in two planes of 64 bits.
 -- Source: Kleene's strong logic (see Logic.antt), lane by lane. Bit 0 is the lowest.
-use Rattle.std.specs.Prelude.{◌≡◌, ℕ, ◌-◌, ◌<◌, ◌^◌, ◌==◌, nat_eq, Bool, true, false}
+use Rattle.std.specs.Prelude.{◌≡◌, ℕ, zero, suc, ◌-◌, ◌<◌, ◌^◌, ◌==◌, nat_eq, Bool, true, false}
 use Rattle.std.specs.Prelude.{Option, Some, None}
 use Rattle.std.specs.Prelude.{bit_and, bit_or, if◌then◌else◌}
 use Rattle.std.specs.{Int.bit_at, Ordering.on, Ordering.eq_of_both}
@@ -33,6 +33,11 @@ lane i planes = answer_of_bits (bit_at planes.is_true i) (bit_at planes.is_false
 -- each lane has the answer that is given for its number
 abbrev pub EachLane : Planes → (ℕ → Option Bool) → Type 0
 EachLane planes answers = (i : ℕ) → i < 64 → lane i planes ≡ answers i
+
+-- this answer for the number 0, and the others for the numbers from 1 on
+abbrev pub behind : Option Bool → (ℕ → Option Bool) → ℕ → Option Bool
+behind answer others zero = answer
+behind answer others (suc i) = others i
 
 abbrev pub planes_top : Planes
 planes_top = record { is_true = 2 ^ 64 - 1; is_false = 0 }

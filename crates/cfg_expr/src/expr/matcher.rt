@@ -1,6 +1,5 @@
 //! Whether a target meets a predicate.
-ghost use Rattle.std.specs.Prelude.{◌≡◌, ◌+◌, ◌*◌, ◌<◌, ◌≤◌, ◌^◌, IfOk, length, map};
-ghost use Rattle.std.specs.Prelude.{if◌then◌else◌};
+ghost use Rattle.std.specs.Prelude.{◌≡◌, ◌≤◌, IfOk, length, map};
 ghost use Rattle.std.specs.List.{slice_get};
 ghost use Rattle.cfgx_syntax.specs.Kleene.{EachLane};
 ghost use Rattle.cfg_expr.specs.Matching.{has_text, meets};
@@ -64,29 +63,19 @@ fn has_text<K, A: Allocator>(key: TextKey, field: &Option<Field<'_, K, A>>, text
     }
 }
 
-// Returns the plane with its lanes moved up by one, and `bit` as lane 0.
-fn with_lane_0(plane: u64, bit: bool) -> u64
-    requires { plane < 2 ^ 63 }
-    ensures { result ≡ (if bit then 1 else 0) + 2 * plane }
-{
-    2 * plane + u64::from(bit)
-}
-
 // Returns the answers of the rows: lane `i` is that of row `i`.
 fn answers_of<T: TargetMatcher>(predicate: &TargetPredicate<'_>, rows: &[T]) -> Kleene64
     requires { length rows.now ≤ 64 }
     ensures { EachLane result
         (slice_get (map (λ row. T.answer row (target_of predicate.now)) rows.now)) }
 {
-    let (mut is_true, mut is_false) = (0, 0);
+    let mut answers = Kleene64::new(0, 0);
     let mut left = rows;
     while let Some((row, before)) = left.split_last() {
-        let answer = row.matches(predicate);
-        is_true = with_lane_0(is_true, answer);
-        is_false = with_lane_0(is_false, !answer);
+        answers = answers.push_front(Some(row.matches(predicate)));
         left = before;
     }
-    Kleene64::new(is_true, is_false)
+    answers
 }
 
 impl<'a, A: Allocator> TargetPredicate<'a, A> {

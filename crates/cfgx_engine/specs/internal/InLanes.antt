@@ -1,6 +1,5 @@
 -- The values of a condition on at most sixty-four targets at once.
-use Rattle.std.specs.Prelude.{◌≡◌, ◌+◌, ◌*◌, ℕ, zero, suc, Bool, true, false, List, [], ◌∷◌, ◌++◌}
-use Rattle.std.specs.Prelude.{Option, Some, None}
+use Rattle.std.specs.Prelude.{◌≡◌, ℕ, zero, suc, Bool, List, [], ◌∷◌, ◌++◌, Option, Some}
 use Rattle.std.specs.List.{AllZip, slice_get}
 use Rattle.cfgx_syntax.specs.Kleene.{Planes, lane}
 use Rattle.cfgx_grammar.specs.Question.{Question}
@@ -11,23 +10,6 @@ abbrev pub InLanes : {T : Type 0} → (T → Question → Option Bool → Type 0
     → Planes → Type 0
 InLanes {T = T} Answers targets question planes = (i : ℕ) (target : T)
     → slice_get targets i ≡ Some target → Answers target question (lane i planes)
-
--- the lanes that are true and the lanes that are false, as planes
-abbrev pub as_planes : ℕ × ℕ → Planes
-as_planes planes = record { is_true = planes.0; is_false = planes.1 }
-
--- the planes with this answer in lane 0, and in each other lane the answer in the lane before it
-abbrev pub with_lane_0 : Option Bool → Planes → Planes
-with_lane_0 (Some true) others =
-    record { is_true = 2 * others.is_true + 1; is_false = 2 * others.is_false }
-with_lane_0 (Some false) others =
-    record { is_true = 2 * others.is_true; is_false = 2 * others.is_false + 1 }
-with_lane_0 None others = record { is_true = 2 * others.is_true; is_false = 2 * others.is_false }
-
--- the planes with these answers in the first lanes, and no answer in the others
-abbrev pub planes_of : List (Option Bool) → Planes
-planes_of [] = record { is_true = 0; is_false = 0 }
-planes_of (answer ∷ answers) = with_lane_0 answer (planes_of answers)
 
 -- the values in the first `n` lanes
 abbrev pub lane_values : ℕ → Planes → List (Option Bool)

@@ -1,5 +1,5 @@
 //! The values of many conditions on many targets that answer by their facts.
-ghost use Rattle.std.specs.Prelude.{◌≡◌, ◌≤◌, ◌<◌, ◌^◌, length, map};
+ghost use Rattle.std.specs.Prelude.{◌≡◌, ◌≤◌, length, map};
 ghost use Rattle.std.specs.Prelude.{Err, IfErr, IfOk, IfSome, OnOk};
 ghost use Rattle.std.specs.List.{AllByRecursion};
 ghost use Rattle.cfgx_syntax.specs.Error.{failure_of};
@@ -10,8 +10,7 @@ ghost use Rattle.cfgx_engine.specs.Audits.{AreValues, FollowsConditions, IsFirst
 ghost use Rattle.cfgx_engine.specs.Facts.{IsAnswer};
 ghost use Rattle.cfgx_engine.specs.Readings.{ParsesAs};
 ghost use Rattle.cfgx_engine.specs.Request.{texts};
-ghost use Rattle.cfgx_engine.specs.internal.InLanes.{AddsEach, as_planes, InLanes, TellsValue};
-ghost use Rattle.cfgx_engine.specs.internal.InLanes.{with_lane_0};
+ghost use Rattle.cfgx_engine.specs.internal.InLanes.{AddsEach, InLanes, TellsValue};
 ghost use Rattle.cfgx_engine.specs.internal.Shows.{Fails};
 
 use super::auditing::{Asker, push_values};
@@ -54,26 +53,13 @@ fn answers_in_lanes<A: SmallAllocator>(
     ensures { InLanes (λ facts. IsAnswer facts otherwise) targets.now
         (question_of predicate.now) result }
 {
-    let mut planes = (0, 0);
+    let mut answers = Kleene64::new(0, 0);
     let mut left = targets;
     while let Some((facts, before)) = left.split_last() {
-        planes = with_lane_0(facts.answer(predicate, otherwise), planes);
+        answers = answers.push_front(facts.answer(predicate, otherwise));
         left = before;
     }
-    Kleene64::new(planes.0, planes.1)
-}
-
-/// Moves each lane up by one, and puts `answer` into lane 0. The planes are the lanes that are true
-/// and the lanes that are false, as bits.
-fn with_lane_0(answer: Option<bool>, planes: (u64, u64)) -> (u64, u64)
-    requires { (planes.0 < 2 ^ 63) × (planes.1 < 2 ^ 63) }
-    ensures { as_planes result ≡ with_lane_0 answer (as_planes planes) }
-{
-    match answer {
-        Some(true) => (2 * planes.0 + 1, 2 * planes.1),
-        Some(false) => (2 * planes.0, 2 * planes.1 + 1),
-        None => (2 * planes.0, 2 * planes.1),
-    }
+    answers
 }
 
 /// Why an audit ended without values.

@@ -2,7 +2,7 @@
 #![tactic(auto, using(crate::proofs::LaneLemmas::lanes))]
 
 ghost use Rattle.std.specs.Prelude.{◌≡◌, ◌<◌, Some, true, false, IsTrue};
-ghost use Rattle.cfgx_syntax.specs.Kleene.{AreDisjoint, EachLane, IsDisjoint, lane};
+ghost use Rattle.cfgx_syntax.specs.Kleene.{AreDisjoint, EachLane, IsDisjoint, behind, lane};
 ghost use Rattle.cfgx_syntax.specs.Kleene.{planes_and, planes_bottom, planes_not, planes_or};
 ghost use Rattle.cfgx_syntax.specs.Kleene.{planes_top};
 ghost use Rattle.cfgx_syntax.specs.Logic.{kleene_and, kleene_not, kleene_or};
@@ -98,6 +98,16 @@ impl Kleene64 {
             Some(false)
         } else {
             None
+        }
+    }
+
+    /// Moves each lane up by one, and puts `answer` into lane 0. What was in lane 63 is gone.
+    pub fn push_front(self, answer: Option<bool>) -> Kleene64
+        ensures { EachLane result (behind answer (λ i. lane i self)) }
+    {
+        Kleene64 {
+            is_true: self.is_true << 1 | u64::from(answer == Some(true)),
+            is_false: self.is_false << 1 | u64::from(answer == Some(false)),
         }
     }
 }
