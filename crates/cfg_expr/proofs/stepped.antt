@@ -1,5 +1,4 @@
-pub mod Asks
-pub mod Kinds
-pub mod Made
-pub mod Slots
+pub mod Counts
+pub mod Stack
 pub mod Values
+pub mod Written

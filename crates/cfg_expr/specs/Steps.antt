@@ -1,12 +1,12 @@
--- A condition as steps, and how they are run with a stack of values.
+-- A condition as steps, and how steps are run with a stack of values.
 -- Source: reverse Polish notation, in which a function stands behind its members.
-use Rattle.std.specs.Prelude.{◌≡◌, ◌≢◌, ◌<◌, ◌-◌, ◌++◌, ℕ, Bool, List, [], ◌∷◌, length, drop}
-use Rattle.std.specs.Prelude.{if◌then◌else◌, take, true, false, nat_eq}
+use Rattle.std.specs.Prelude.{◌≡◌, ◌≢◌, ◌<◌, ◌++◌, ℕ, Bool, List, [], ◌∷◌, Option, Some, None}
+use Rattle.std.specs.Prelude.{drop, false, if◌then◌else◌, length, nat_eq, nat_le, option_and_then}
+use Rattle.std.specs.Prelude.{reverse, take, true}
 use Rattle.std.specs.{Cmp.Lexicographic.pointwise, Ordering.on}
 use Rattle.cfgx_grammar.specs.Answer.{HasOneTree}
-use Rattle.cfg_expr.specs.Fold.{Operations, first_or, list_value, literal_value, tree_fold}
-use Rattle.cfgx_grammar.specs.Question.{Question}
-use Rattle.cfgx_grammar.specs.Tree.{ListFunction, Tree, Trees, asked, count, is_function, is_leaf}
+use Rattle.cfg_expr.specs.Fold.{Operations, list_value, literal_value}
+use Rattle.cfgx_grammar.specs.Tree.{ListFunction, Tree, Trees, count, is_function, is_leaf}
 use Rattle.cfg_expr.specs.declared.expr.steps.Step.{Step}
 use Rattle.cfg_expr.specs.declared.expr.steps.Step.TheVariants.{Ask, Literal, Not, All, Any}
 use Rattle.cfg_expr.specs.declared.expr.steps.StepsError.{StepsError}
@@ -50,59 +50,43 @@ abbrev mutual
 abbrev pub AreSteps : List ℕ → List Step → Type 0
 AreSteps text steps = (one : HasOneTree text) × (steps ≡ steps_of one.tree)
 
--- the last `count` of the values, or all if there are fewer
-abbrev pub last_values : {T : Type 0} → ℕ → List T → List T
-last_values count values = drop (length values - count) values
-
--- the values in front of those
-abbrev pub without_last : {T : Type 0} → ℕ → List T → List T
-without_last count values = take (length values - count) values
-
 module _ {T : Type 0} (logic : Operations T) where
-  -- The value that a step pushes. The top of the stack is its last value.
-  abbrev pub step_value : Step → List T → List T → T
-  step_value Ask answers stack = first_or logic.top answers
-  step_value (Literal truth) answers stack = literal_value logic truth
-  step_value Not answers stack = logic.not (first_or logic.top (last_values 1 stack))
-  step_value (All n) answers stack = list_value logic ListFunction.all (last_values n stack)
-  step_value (Any n) answers stack = list_value logic ListFunction.any (last_values n stack)
+  -- The stack after `n` values are popped and their joined value is pushed: none if there are
+  -- fewer. Its first value is its top.
+  abbrev pub join_top : ListFunction → ℕ → List T → Option (List T)
+  join_top function n stack = if nat_le n (length stack)
+      then Some (list_value logic function (reverse (take n stack)) ∷ drop n stack) else None
 
--- the number of values that a step pops
-abbrev pub popped : Step → ℕ
-popped Ask = 0
-popped (Literal truth) = 0
-popped Not = 1
-popped (All n) = n
-popped (Any n) = n
+  -- The value that steps give over answers, with a stack of values. There is one if each step that
+  -- asks has an answer, no step pops more values than there are, and at the end no answer and
+  -- exactly one value are left.
+  abbrev pub run_steps : List Step → List T → List T → Option T
+  run_steps [] [] (value ∷ []) = Some value
+  run_steps [] answers stack = None
+  run_steps (Ask ∷ steps) (answer ∷ answers) stack = run_steps steps answers (answer ∷ stack)
+  run_steps (Ask ∷ steps) [] stack = None
+  run_steps (Literal truth ∷ steps) answers stack =
+      run_steps steps answers (literal_value logic truth ∷ stack)
+  run_steps (Not ∷ steps) answers (value ∷ stack) =
+      run_steps steps answers (logic.not value ∷ stack)
+  run_steps (Not ∷ steps) answers [] = None
+  run_steps (All n ∷ steps) answers stack =
+      option_and_then (run_steps steps answers) (join_top ListFunction.all n stack)
+  run_steps (Any n ∷ steps) answers stack =
+      option_and_then (run_steps steps answers) (join_top ListFunction.any n stack)
 
--- the answers that a step leaves
-abbrev pub answers_after : {T : Type 0} → Step → List T → List T
-answers_after Ask answers = drop 1 answers
-answers_after step answers = answers
+  -- over no answers do the steps have a value
+  abbrev pub HaveNoValue : List Step → Type 0
+  HaveNoValue steps = (answers : List T) → run_steps steps answers [] ≡ None
 
--- the stack after all steps
-abbrev pub run_steps : {T : Type 0} → Operations T → List Step → List T → List T → List T
-run_steps logic [] answers stack = stack
-run_steps logic (step ∷ steps) answers stack = run_steps logic steps (answers_after step answers)
-    (without_last (popped step) stack ++ step_value logic step answers stack ∷ [])
+  -- the steps have a value over another number of answers
+  pub record AreMiscounted (steps : List Step) (answers : List T) : Type 0 where
+    pub others : List T
+    pub has : run_steps steps others [] ≢ None
+    pub differ : length answers ≢ length others
 
--- a tree that has these steps
-pub record HasSteps (steps : List Step) (tree : Tree Question) : Type 0 where
-  pub are : steps_of tree ≡ steps
-
--- there is such a tree, and over the answers, one for each predicate that it asks, every such tree
--- has this value
-pub record IsValueOfSteps {T : Type 0} (logic : Operations T) (steps : List Step)
-    (answers : List T) (value : T) : Type 0 where
-  pub tree : Tree Question
-  pub has : HasSteps steps tree
-  pub count : length answers ≡ length (asked tree)
-  pub every : (other : Tree Question) → HasSteps steps other
-      → value ≡ tree_fold logic other answers
-
--- why steps have no value over this number of answers
-abbrev pub HaveNoValue : List Step → ℕ → StepsError → Type 0
-HaveNoValue steps answers error.NoTree = (tree : Tree Question) → ¬ HasSteps steps tree
-HaveNoValue steps answers error.Miscounted =
-    (tree : Tree Question) × HasSteps steps tree × (answers ≢ length (asked tree))
-HaveNoValue steps answers (error.Memory refused) = 33 < length steps
+  -- why steps have no value over answers
+  abbrev pub Fail : List Step → List T → StepsError → Type 0
+  Fail steps answers error.NoValue = HaveNoValue steps
+  Fail steps answers error.Miscounted = AreMiscounted steps answers
+  Fail steps answers (error.Memory refused) = 33 < length steps

@@ -3,5 +3,5 @@
 pub mod AnswerSlots
 pub mod Parity
 pub mod Reading
-pub mod StepKinds
-pub mod StepValues
+pub mod StepStack
+pub mod StepWriting

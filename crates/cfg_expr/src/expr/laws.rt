@@ -1,6 +1,6 @@
 //! Laws on the values of all conditions, for proofs of callers. Each function does nothing, and its
 //! caller knows what it ensures.
-ghost use Rattle.std.specs.Prelude.{◌≡◌, ℕ, ◌<◌, ◌++◌, ◌∷◌, [], Bool, List, length, map};
+ghost use Rattle.std.specs.Prelude.{◌≡◌, ℕ, ◌<◌, ◌++◌, ◌∷◌, [], Bool, List, Some, length, map};
 ghost use Rattle.std.specs.List.{AllByRecursion};
 ghost use Rattle.cfgx_syntax.specs.Kleene.{lane};
 ghost use Rattle.cfg_expr.specs.Filling.{three_valued};
@@ -49,11 +49,15 @@ pub fn lanes_are_homomorphisms()
         → IsHomomorphism lane_valued three_valued (Passes is_disjoint) (lane i) }
 {}
 
-/// The steps of a condition, run over answers to its predicates, push its value. So a loop over the
-/// steps with a stack of values evaluates the condition, in any logic.
+/// The steps of a condition, run over answers to its predicates, push its value, and alone they
+/// have it as theirs. So a loop over the steps with a stack of values evaluates the condition, in
+/// any logic.
 pub fn steps_push_the_value<T: Logic>()
-    ensures { (tree : Tree Question) (answers more stack : List T) (rest : List Step)
+    ensures pushed { (tree : Tree Question) (answers more stack : List T) (rest : List Step)
         → length answers ≡ length (asked tree)
         → run_steps T.Logic (steps_of tree ++ rest) (answers ++ more) stack
-        ≡ run_steps T.Logic rest more (stack ++ tree_fold T.Logic tree answers ∷ []) }
+        ≡ run_steps T.Logic rest more (tree_fold T.Logic tree answers ∷ stack) }
+    ensures alone { (tree : Tree Question) (answers : List T)
+        → length answers ≡ length (asked tree)
+        → run_steps T.Logic (steps_of tree) answers [] ≡ Some (tree_fold T.Logic tree answers) }
 {}

@@ -3,26 +3,21 @@
 //! A loop with a stack of values runs the steps. The step of a function comes after those of its
 //! members, and members come in the order in which they are asked. So each step that asks takes the
 //! next answer, and a function joins the last values of the stack.
-ghost use Rattle.std.specs.Prelude.{◌≡◌, ◌↔◌, ◌<◌, ◌≤◌, ◌+◌, ◌++◌, [], false, ℕ, List};
-ghost use Rattle.std.specs.Prelude.{IfErr, IfNone, IfOk, IfSome, IsTrue, OnErr, OnOk, OnSome};
-ghost use Rattle.std.specs.Prelude.{count_by, drop, length, map};
+ghost use Rattle.std.specs.Prelude.{◌≡◌, ◌<◌, ◌≤◌, [], ◌∷◌, ◌++◌, ℕ, List, None, Some};
+ghost use Rattle.std.specs.Prelude.{IfErr, IfOk, IsTrue, MatchOption, OnOk};
+ghost use Rattle.std.specs.Prelude.{◌↔◌, drop, length, map, reverse, slice_get, take};
 ghost use Rattle.std.specs.Cmp.Rules.{comparing};
 ghost use Rattle.std.proofs.Common.{rules};
 ghost use Rattle.smallvec.specs.SmallVec.{HasRoomFor};
-ghost use Rattle.cfg_expr.specs.Fold.{first_or, from_last};
-ghost use Rattle.cfgx_grammar.specs.Question.{Question};
-ghost use Rattle.cfgx_grammar.specs.Tree.{Tree, Trees};
-ghost use Rattle.cfgx_parser.specs.nodes.Prefix.{node_at, prefix, prefix_each};
-ghost use Rattle.cfg_expr.specs.Steps.{AreSteps, HasSteps, HaveNoValue, IsValueOfSteps};
-ghost use Rattle.cfg_expr.specs.Steps.{answers_after, last_values, popped, run_steps, step_value};
-ghost use Rattle.cfg_expr.specs.Steps.{step_eq, without_last};
+ghost use Rattle.cfg_expr.specs.Fold.{from_last};
+ghost use Rattle.cfgx_parser.specs.nodes.Shape.{shape};
+ghost use Rattle.cfg_expr.specs.Steps.{AreSteps, Fail, run_steps, step_eq};
 ghost use Rattle.cfg_expr.specs.nodes.Reading.{identity_of, join_of};
-ghost use Rattle.cfg_expr.specs.nodes.StepKinds.{found_if, functions_first, is_ask, joined_kinds};
-ghost use Rattle.cfg_expr.specs.nodes.StepKinds.{kinds_after};
-ghost use Rattle.cfg_expr.specs.nodes.StepValues.{Expands, is_of, node_len, node_step};
-ghost use Rattle.cfg_expr.specs.nodes.StepValues.{nodes_in, trees_by, values};
+ghost use Rattle.cfg_expr.specs.nodes.StepStack.{Holds, leave_one, popped};
+ghost use Rattle.cfg_expr.specs.nodes.StepWriting.{Written, ended, with_function, with_leaf};
+ghost use Rattle.cfg_expr.specs.nodes.StepWriting.{with_node, with_nodes, written_of};
 
-use super::evaluating::{Connective, Kind, literal_value};
+use super::evaluating::{Connective, literal_value};
 use super::{Condition, Func};
 use crate::memory::SmallAllocator;
 use cfgx_parser::nodes::ExprNode;
@@ -73,9 +68,9 @@ impl Eq for Step {
 /// Why steps have no value over answers.
 #[derive(Debug, Drop)]
 pub enum StepsError {
-    /// No condition has these steps.
-    NoTree,
-    /// A condition has these steps. It asks more or fewer predicates than there are answers.
+    /// Over no answers do the steps have a value.
+    NoValue,
+    /// The steps have a value over another number of answers.
     Miscounted,
     /// The allocator refused memory.
     Memory(AllocError),
@@ -91,302 +86,255 @@ impl From<AllocError> for StepsError {
     }
 }
 
-/// Whether functions stand in front of leaves. An item is true if it is of a function.
-fn functions_first(kinds: &[bool]) -> bool
-    ensures { result ≡ functions_first false kinds.now }
+impl Step {
+    /// Returns the number of values that the step pops.
+    fn popped(self) -> usize
+        ensures { result ≡ popped self }
+    {
+        match self {
+            Step::Ask | Step::Literal(_) => 0,
+            Step::Not => 1,
+            Step::All(count) | Step::Any(count) => count,
+        }
+    }
+}
+
+/// Whether the steps leave exactly one value, if there are enough answers.
+fn leave_one(steps: &[Step]) -> bool
+    ensures { result ≡ leave_one steps.now 0 }
 {
-    let mut behind_leaf = false;
-    for is_function in kinds {
-        if *is_function && behind_leaf {
+    let mut depth = 0;
+    for step in steps {
+        let popped = step.popped();
+        if popped > depth {
             return false;
         }
-        behind_leaf = !*is_function;
+        depth = depth - popped + 1;
     }
-    true
+    depth == 1
 }
 
-/// Joins the last `count` trees of the stack to a function. Returns false if there are fewer, or if
-/// a leaf stands before a function among them, which no condition has: its members are arranged.
-fn join_kinds<A: SmallAllocator>(count: usize, kinds: &mut SmallVec<bool, 33, &A>) -> bool
-    requires { HasRoomFor kinds.old 1 }
-    ensures kinds { joined_kinds count kinds.old.items ≡ found_if result kinds.new.items }
-    ensures len { length kinds.new.items ≤ length kinds.old.items + 1 }
-    ensures capacity { kinds.new.capacity ≡ kinds.old.capacity }
+/// Takes the first answer that is left and returns it, or `None` if none is left.
+fn take_answer<T: Copy>(answers: &mut &[T]) -> Option<T>
+    ensures { MatchOption result (answers.old.now ≡ [])
+        (λ answer. answers.old.now ≡ answer ∷ answers.new.now) }
 {
-    if kinds.len() < count {
-        return false;
-    }
-    let begin = kinds.len() - count;
-    if !functions_first(&kinds.as_slice()[begin..]) {
-        return false;
-    }
-    kinds.truncate(begin);
-    kinds.push_reserved(true);
-    true
-}
-
-/// Replaces the members of the tree that ends with `step` by that tree. Returns false if there is
-/// no such tree.
-fn push_kind<A: SmallAllocator>(step: Step, kinds: &mut SmallVec<bool, 33, &A>) -> bool
-    requires { HasRoomFor kinds.old 1 }
-    ensures kinds { kinds_after step kinds.old.items ≡ found_if result kinds.new.items }
-    ensures len { length kinds.new.items ≤ length kinds.old.items + 1 }
-    ensures capacity { kinds.new.capacity ≡ kinds.old.capacity }
-{
-    match step {
-        Step::Ask | Step::Literal(_) => {
-            kinds.push_reserved(false);
-            true
-        }
-        Step::Not => join_kinds(1, kinds),
-        Step::All(count) | Step::Any(count) => join_kinds(count, kinds),
-    }
-}
-
-/// Whether a condition has these steps. Takes no memory for up to 33 steps.
-fn have_tree<A: SmallAllocator>(alloc: &A, steps: &[Step]) -> Result<bool, AllocError>
-    ensures tree { IfOk result (λ found.
-        IsTrue found ↔ ((tree : Tree Question) × HasSteps steps.now tree)) }
-    ensures short { OnErr result (33 < length steps.now) }
-{
-    let mut kinds = SmallVec::with_capacity(alloc, steps.len())?;
-    for step in steps {
-        if !push_kind(*step, &mut kinds) {
-            return Ok(false);
-        }
-    }
-    Ok(kinds.len() == 1)
-}
-
-/// Returns the number of predicates that steps ask.
-fn count_asked(steps: &[Step]) -> usize
-    ensures { result ≡ count_by is_ask steps.now }
-{
-    let mut asked = 0;
-    for step in steps {
-        if matches!(step, Step::Ask) {
-            asked += 1;
-        }
-    }
-    asked
-}
-
-/// Takes the first answer that is left and returns it, or `top` if none is left.
-fn take_answer<T: Logic + Copy>(answers: &mut &[T]) -> T
-    ensures answer { result ≡ first_or T.Logic.top answers.old.now }
-    ensures rest { answers.new.now ≡ drop 1 answers.old.now }
-{
-    let Some((first, others)) = answers.split_first() else {
-        return T::top();
-    };
+    let (first, others) = answers.split_first()?;
     *answers = others;
-    *first
+    Some(*first)
 }
 
-/// Joins the values of a list from the last to the first.
-fn join_all<T: Logic + Copy>(connective: Connective, members: &[Option<T>]) -> T
-    ensures { result ≡ from_last (join_of T.Logic connective) (identity_of T.Logic connective)
-        (values T.Logic members.now) }
+/// Pops the last value and returns it, or `None` if there is none.
+fn pop<T: Logic + Copy, A: SmallAllocator>(stack: &mut SmallVec<Option<T>, 33, &A>) -> Option<T>
+    ensures value { (values : List T) → Holds stack.old.items values
+        → (result ≡ slice_get values 0) × Holds stack.new.items (drop 1 values) }
+    ensures fewer { length stack.new.items ≤ length stack.old.items }
+    ensures capacity { stack.new.capacity ≡ stack.old.capacity }
 {
-    let mut value = connective.identity();
-    for place in (0..members.len()).rev() {
-        value = connective.join(value, members[place].unwrap_or(T::top()));
-    }
-    value
+    stack.pop()?
 }
 
-/// Pops the last `count` values, or all if there are fewer, and returns what joining them gives.
+/// Pops `count` values, joins them in the order of popping and returns what they give. Returns
+/// `None` if there are fewer.
 fn pop_joined<T: Logic + Copy, A: SmallAllocator>(
     connective: Connective,
     count: usize,
     stack: &mut SmallVec<Option<T>, 33, &A>,
-) -> T
-    ensures value { result ≡ from_last (join_of T.Logic connective) (identity_of T.Logic connective)
-        (last_values count (values T.Logic stack.old.items)) }
-    ensures stack { stack.new.items ≡ without_last count stack.old.items }
+) -> Option<T>
+    ensures value { (values : List T) → Holds stack.old.items values
+        → MatchOption result (length values < count) (λ value. (count ≤ length values)
+        × (value ≡ from_last (join_of T.Logic connective) (identity_of T.Logic connective)
+        (reverse (take count values))) × Holds stack.new.items (drop count values)) }
+    ensures fewer { length stack.new.items ≤ length stack.old.items }
     ensures capacity { stack.new.capacity ≡ stack.old.capacity }
 {
-    let begin = stack.len().saturating_sub(count);
-    let value = join_all(connective, &stack.as_slice()[begin..]);
-    stack.truncate(begin);
-    value
-}
-
-/// Pops the last value and returns it. Returns `top` if there is none.
-fn pop_last<T: Logic + Copy, A: SmallAllocator>(stack: &mut SmallVec<Option<T>, 33, &A>) -> T
-    ensures value { result
-        ≡ first_or T.Logic.top (last_values 1 (values T.Logic stack.old.items)) }
-    ensures stack { stack.new.items ≡ without_last 1 stack.old.items }
-    ensures capacity { stack.new.capacity ≡ stack.old.capacity }
-{
-    match stack.pop() {
-        Some(Some(value)) => value,
-        _ => T::top(),
+    let mut value = connective.identity();
+    for _popped in 0..count {
+        let member = pop(stack)?;
+        value = connective.join(value, member);
     }
+    Some(value)
 }
 
-/// Takes what `step` takes of the answers and of the stack. Returns the value that it pushes.
+/// Takes what `step` takes of the answers and of the stack. Returns the value that it pushes, or
+/// `None` if an answer or a value is missing.
 fn take_value<T: Logic + Copy, A: SmallAllocator>(
     step: Step,
     answers: &mut &[T],
     stack: &mut SmallVec<Option<T>, 33, &A>,
-) -> T
-    ensures value { result
-        ≡ step_value T.Logic step answers.old.now (values T.Logic stack.old.items) }
-    ensures answers { answers.new.now ≡ answers_after step answers.old.now }
-    ensures stack { stack.new.items ≡ without_last (popped step) stack.old.items }
+) -> Option<T>
+    ensures value { (values : List T) (steps : List Step) → Holds stack.old.items values
+        → MatchOption result (run_steps T.Logic (step ∷ steps) answers.old.now values ≡ None)
+        (λ value. (below : List T) × Holds stack.new.items below
+        × (run_steps T.Logic (step ∷ steps) answers.old.now values
+        ≡ run_steps T.Logic steps answers.new.now (value ∷ below))) }
+    ensures fewer { length stack.new.items ≤ length stack.old.items }
     ensures capacity { stack.new.capacity ≡ stack.old.capacity }
 {
     match step {
         Step::Ask => take_answer(answers),
-        Step::Literal(truth) => literal_value(truth),
-        Step::Not => pop_last(stack).not(),
+        Step::Literal(truth) => Some(literal_value(truth)),
+        Step::Not => Some(pop(stack)?.not()),
         Step::All(count) => pop_joined(Connective::And, count, stack),
         Step::Any(count) => pop_joined(Connective::Or, count, stack),
     }
 }
 
-/// Runs the steps over `answers`.
+/// Runs the steps over `answers`, and returns their value if they have one.
 fn run_steps<T: Logic + Copy, A: SmallAllocator>(
     steps: &[Step],
     answers: &[T],
     stack: &mut SmallVec<Option<T>, 33, &A>,
-)
-    requires { HasRoomFor stack.old (length steps.now) }
-    ensures { values T.Logic stack.new.items
-        ≡ run_steps T.Logic steps.now answers.now (values T.Logic stack.old.items) }
+) -> Option<T>
+    requires empty { stack.old.items ≡ [] }
+    requires room { HasRoomFor stack.old (length steps.now) }
+    ensures { result ≡ run_steps T.Logic steps.now answers.now [] }
 {
     let mut left = answers;
     for step in steps {
-        let value = take_value(*step, &mut left, stack);
+        let value = take_value(*step, &mut left, stack)?;
         stack.push_reserved(Some(value));
     }
+    let value = pop(stack)?;
+    (left.is_empty() & stack.is_empty()).then_some(value)
 }
 
-/// Returns the value of the condition that has these steps, over `answers`, one for each predicate
-/// in the order in which the condition asks them. Any list of steps may be passed.
+/// Returns the value that the steps leave on a stack. Any list of steps may be passed. Each step
+/// that asks takes the next of the `answers`. Over answers to its predicates, in the order in which
+/// it asks them, the steps of a condition have its value.
 ///
 /// Takes no memory for up to 33 steps.
 ///
 /// # Errors
 ///
-/// `StepsError::NoTree`: no condition has these steps. `StepsError::Miscounted`: a condition has
-/// them, and there are more or fewer answers than it has predicates. `StepsError::Memory`: `alloc`
-/// refused memory.
+/// `StepsError::NoValue`: the steps have no value over any answers, since a step pops more values
+/// than there are, or not exactly one value is left. `StepsError::Miscounted`: they have a value
+/// over more or fewer answers. `StepsError::Memory`: `alloc` refused memory.
 pub fn eval_steps<T, A>(alloc: A, steps: &[Step], answers: &[T]) -> Result<T, StepsError>
 where
     T: Logic + Copy,
     A: SmallAllocator,
-    ensures value { IfOk result (IsValueOfSteps T.Logic steps.now answers.now) }
-    ensures error { IfErr result (HaveNoValue steps.now (length answers.now)) }
+    ensures value { IfOk result (λ value.
+        run_steps T.Logic steps.now answers.now [] ≡ Some value) }
+    ensures error { IfErr result (Fail T.Logic steps.now answers.now) }
 {
-    if !have_tree(&alloc, steps)? {
-        return Err(StepsError::NoTree);
-    }
-    if count_asked(steps) != answers.len() {
-        return Err(StepsError::Miscounted);
-    }
     let mut stack = SmallVec::with_capacity(&alloc, steps.len())?;
-    run_steps(steps, answers, &mut stack);
-    Ok(pop_last(&mut stack))
-}
-
-/// Returns the step of a node.
-fn node_step(node: &ExprNode) -> Step
-    ensures { (text : List ℕ) → result ≡ node_step (node_at text node.now) }
-{
-    match node {
-        ExprNode::Fn { func, .. } => match func {
-            Func::Not => Step::Not,
-            Func::All(count) => Step::All(*count),
-            Func::Any(count) => Step::Any(*count),
-        },
-        ExprNode::Predicate(_) => Step::Ask,
-        ExprNode::Literal(truth) => Step::Literal(*truth),
+    match run_steps(steps, answers, &mut stack) {
+        Some(value) => Ok(value),
+        None if leave_one(steps) => Err(StepsError::Miscounted),
+        None => Err(StepsError::NoValue),
     }
 }
 
-/// Returns the number of nodes of the tree that begins with `node`.
-fn node_len(node: &ExprNode) -> usize
-    ensures { (text : List ℕ) → result ≡ node_len (node_at text node.now) }
-{
-    match node {
-        ExprNode::Fn { len, .. } => *len,
-        ExprNode::Predicate(_) | ExprNode::Literal(_) => 1,
+/// A function that has begun and not ended.
+#[derive(Clone, Copy, Debug)]
+pub(crate) struct Open {
+    step: Step,
+    /// The number of its members that have not ended
+    members: usize,
+    /// The number of leaves that were written before its own
+    leaves: usize,
+}
+
+/// The steps of a condition while they are written, in one pass over its nodes.
+#[derive(Drop)]
+pub(crate) struct Writer<A: SmallAllocator> {
+    /// The functions that have begun and not ended, the innermost one last
+    begun: Vec<Open, A>,
+    /// The steps of the leaves of these functions, which come after those of member functions
+    leaves: Vec<Step, A>,
+    /// The other steps
+    steps: Vec<Step, A>,
+}
+
+impl<A: SmallAllocator> Writer<A> {
+    /// Moves all leaves but the first `count` to the end of the steps.
+    fn end_leaves(&mut self, count: usize) -> Result<(), AllocError>
+        ensures begun { self.new.begun ≡ self.old.begun }
+        ensures leaves { OnOk result (self.new.leaves.items ≡ take count self.old.leaves.items) }
+        ensures steps { OnOk result (self.new.steps.items
+            ≡ self.old.steps.items ++ drop count self.old.leaves.items) }
+    {
+        let begin = count.min(self.leaves.len());
+        self.steps.extend_from_slice(&self.leaves[begin..])?;
+        self.leaves.truncate(begin);
+        Ok(())
     }
-}
 
-/// Whether the tree of these nodes is of the given kind.
-fn is_of(kind: Kind, tree: &[ExprNode]) -> bool
-    ensures { (text : List ℕ) (of : Tree Question) → map (node_at text) tree.now ≡ prefix of
-        → result ≡ is_of kind of }
-{
-    match (tree.first(), kind) {
-        (Some(ExprNode::Fn { .. }), Kind::Function) => true,
-        (Some(ExprNode::Predicate(_) | ExprNode::Literal(_)), Kind::Leaf) => true,
-        _ => false,
+    /// Ends a member, and with it each function of which it is the last one.
+    fn end_member(&mut self) -> Result<(), AllocError>
+        ensures { OnOk result (written_of self.new ≡ ended (written_of self.old).begun
+            (written_of self.old).leaves (written_of self.old).steps) }
+    {
+        while let Some(function) = self.begun.pop() {
+            if function.members > 1 {
+                let members = function.members - 1;
+                self.begun.push(Open {
+                    members,
+                    ..function
+                })?;
+                return Ok(());
+            }
+            self.end_leaves(function.leaves)?;
+            self.steps.push(function.step)?;
+        }
+        Ok(())
     }
-}
 
-/// Takes the nodes of the first tree that is left and returns them, or `None` if none is left.
-fn take_tree<'a>(left: &mut &'a [ExprNode]) -> Option<&'a [ExprNode]>
-    ensures none { IfNone result (left.old.now ≡ []) }
-    ensures tree { IfSome result (λ taken. (text : List ℕ) (tree : Tree Question)
-        (trees : Trees Question)
-        → map (node_at text) left.old.now ≡ prefix_each (Trees.more tree trees)
-        → (map (node_at text) taken.now ≡ prefix tree)
-        × (map (node_at text) left.new.now ≡ prefix_each trees)) }
-    ensures fewer { OnSome result (length left.new.now < length left.old.now) }
-{
-    let first = left.first()?;
-    let len = node_len(first).max(1).min(left.len());
-    let (tree, others) = left.split_at(len);
-    *left = others;
-    Some(tree)
-}
+    /// Writes the step of a leaf.
+    fn write_leaf(&mut self, step: Step) -> Result<(), AllocError>
+        ensures { OnOk result (written_of self.new ≡ with_leaf step (written_of self.old)) }
+    {
+        self.leaves.push(step)?;
+        self.end_member()
+    }
 
-/// Pushes the members of the given kind to `trees`, in the order of the text.
-fn push_members<'a, A: SmallAllocator>(
-    kind: Kind,
-    members: &'a [ExprNode],
-    trees: &mut Vec<&'a [ExprNode], A>,
-) -> Result<(), AllocError>
-    ensures { OnOk result ((text : List ℕ) (of : Trees Question)
-        → map (node_at text) members.now ≡ prefix_each of → nodes_in text trees.new.items
-        ≡ nodes_in text trees.old.items ++ map prefix (trees_by (is_of kind) of)) }
-{
-    let mut left = members;
-    while let Some(member) = take_tree(&mut left) {
-        if is_of(kind, member) {
-            trees.push(member)?;
+    /// Begins a function, whose step is written when its last member ends.
+    fn begin_function(&mut self, step: Step, members: usize) -> Result<(), AllocError>
+        ensures { OnOk result
+            (written_of self.new ≡ with_function step members (written_of self.old)) }
+    {
+        let leaves = self.leaves.len();
+        self.begun.push(Open {
+            step,
+            members,
+            leaves,
+        })?;
+        if members == 0 {
+            return self.end_member();
+        }
+        Ok(())
+    }
+
+    /// Writes the next node.
+    fn write_node(&mut self, node: &ExprNode) -> Result<(), AllocError>
+        ensures { OnOk result
+            (written_of self.new ≡ with_node (shape node.now) (written_of self.old)) }
+    {
+        match node {
+            ExprNode::Predicate(_) => self.write_leaf(Step::Ask),
+            ExprNode::Literal(truth) => self.write_leaf(Step::Literal(*truth)),
+            ExprNode::Fn { func, .. } => match func {
+                Func::Not => self.begin_function(Step::Not, 1),
+                Func::All(count) => self.begin_function(Step::All(*count), *count),
+                Func::Any(count) => self.begin_function(Step::Any(*count), *count),
+            },
         }
     }
-    Ok(())
-}
 
-/// Pushes the step of a tree to `steps`, and its arranged members to `trees`.
-fn push_step<'a, A: SmallAllocator>(
-    tree: &'a [ExprNode],
-    trees: &mut Vec<&'a [ExprNode], A>,
-    steps: &mut Vec<Step, A>,
-) -> Result<(), AllocError>
-    ensures { OnOk result ((text : List ℕ) (of : Tree Question)
-        → map (node_at text) tree.now ≡ prefix of → Expands text of
-        trees.old.items steps.old.items trees.new.items steps.new.items) }
-{
-    if let Some((node, members)) = tree.split_first() {
-        steps.push(node_step(node))?;
-        push_members(Kind::Function, members, trees)?;
-        push_members(Kind::Leaf, members, trees)?;
+    /// Writes all nodes, one after another.
+    fn write_nodes(&mut self, nodes: &[ExprNode]) -> Result<(), AllocError>
+        ensures { OnOk result (written_of self.new
+            ≡ with_nodes (map shape nodes.now) (written_of self.old)) }
+    {
+        for node in nodes {
+            self.write_node(node)?;
+        }
+        Ok(())
     }
-    Ok(())
 }
 
 /// Returns the steps of a condition, in time proportional to the number of its nodes.
-///
-/// The steps are made from the last to the first: `trees` is a stack of the trees whose steps stand
-/// before those that are made. The step of a function comes last, so it is made first, and then its
-/// last member is on top.
 ///
 /// Returns an error if `alloc` refuses memory.
 pub fn steps_of<A: SmallAllocator>(
@@ -395,12 +343,14 @@ pub fn steps_of<A: SmallAllocator>(
 ) -> Result<Vec<Step, A>, AllocError>
     ensures { IfOk result (λ steps. AreSteps condition.now steps.items) }
 {
-    let mut steps = Vec::with_capacity(alloc, condition.nodes().len())?;
-    let mut trees = Vec::new(alloc);
-    trees.push(condition.nodes())?;
-    while let Some(tree) = trees.pop() {
-        push_step(tree, &mut trees, &mut steps)?;
-    }
-    steps.reverse();
-    Ok(steps)
+    let nodes = condition.nodes();
+    let mut writer = Writer {
+        begun: Vec::new(alloc),
+        leaves: Vec::new(alloc),
+        steps: Vec::with_capacity(alloc, nodes.len())?,
+    };
+    writer.write_nodes(nodes)?;
+    // A condition without a function is one leaf.
+    writer.end_leaves(0)?;
+    Ok(writer.steps)
 }

@@ -1,33 +1,47 @@
--- One step more is run, and pushes at most one value more than it pops.
-use Rattle.std.proofs.Common.{◌+◌, ◌∙◌, Some, ap, arith, drop, length}
+-- One step more is run.
+use Rattle.std.proofs.Common.{◌∙◌, Some, ap, arith, length, refl}
 use Rattle.std.proofs.lemmas.List.{length_push}
-use Rattle.cfg_expr.specs.{Steps.run_steps, nodes.StepValues.values}
-use Rattle.cfg_expr.proofs.stepped.Slots.{run-next, shorter}
+use Rattle.cfg_expr.proofs.stepped.Stack.{run-last, run-next, run-none, run-stopped}
 use Rattle.cfg_expr.proofs.expr.steps.run_steps.Goals as goal
+
+pub returns-in_err-value : goal.returns-in_err-value
+returns-in_err-value g c =
+    let running = c.loop-step.invariant.running in
+    c.from_residual.ensures ∙ run-stopped g.T.Logic running _ c.loop-step-test.true
+    (c.in_err-value.ensures.value running.values _ running.holds)
 
 pub loop-step-preserved : goal.loop-step-preserved
 loop-step-preserved g c =
-    let next = c.loop-step.step-index + 1 in
-    let slots = c.push_reserved.new.self.items in
-    let left = c.take_value-value.ensures.stack in record {
-      runs = ap (λ l. run_steps g.T.Logic (drop next c.args.steps.now) l
-          (values g.T.Logic slots)) c.take_value-value.ensures.answers
-          ∙ run-next g.T.Logic c.args.steps.now c.loop-step.step-index _ c.loop-step.left.now
-          c.loop-step.stack.items c.take_value-value.new.stack.items slots
-          c.take_value-value.result c.loop-step-test.true
-          c.take_value-value.ensures.value left c.push_reserved.ensures.items
-          ∙ c.loop-step.invariant.runs;
+    let running = c.loop-step.invariant.running in
+    record {
+      running = run-next g.T.Logic running _ c.loop-step-test.true _ _ _ _
+          (c.in_ok-value.ensures.value running.values _ running.holds)
+          c.push_reserved.ensures.items;
       few = omega (
         arith,
         ap length c.push_reserved.ensures.items,
-        length_push c.take_value-value.new.stack.items (Some c.take_value-value.result),
-        shorter c.loop-step.stack.items _ _ left,
+        length_push c.take_value.new.stack.items (Some c.in_ok-value.value),
+        c.in_ok-value.ensures.fewer,
         c.loop-step.invariant.few,
       );
       room = omega (
         arith,
         c.push_reserved.ensures.capacity,
-        c.take_value-value.ensures.capacity,
+        c.in_ok-value.ensures.capacity,
         c.loop-step.invariant.room,
       );
     }
+
+pub returns-in_err-value-2 : goal.returns-in_err-value-2
+returns-in_err-value-2 g c =
+    let running = c.loop-step.invariant.running in
+    c.from_residual-in_err-value-2.ensures ∙ run-none g.T.Logic running (omega (arith, c.loop-step-test.false))
+    (c.in_err-value-2.ensures.value running.values running.holds).0
+
+pub returns : goal.returns
+returns g c =
+    let running = c.loop-step.invariant.running in
+    let popped = c.in_ok-value-2.ensures.value running.values running.holds in
+    run-last g.T.Logic running (omega (arith, c.loop-step-test.false)) c.in_ok-value-2.value
+    c.pop.new.stack.items c.then_some.result popped.0 popped.1 (c.then_some.ensures
+    ∙ rw (c.is_empty.ensures, c.is_empty-2.ensures) refl)

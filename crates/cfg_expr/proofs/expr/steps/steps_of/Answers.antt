@@ -1,39 +1,23 @@
--- The stack begins with the text's one tree, and at the end it is empty.
-use Rattle.std.proofs.Common.{◌++◌, ◌∙◌, ◌∷◌, [], ap, flat_map, reverse, sym}
-use Rattle.std.proofs.lemmas.List.{append-nil, nil_from_length}
-use Rattle.cfg_expr.specs.Steps.{steps_of}
-use Rattle.cfg_expr.specs.nodes.StepValues.{nodes_in}
-use Rattle.cfg_expr.proofs.stepped.Made.{all-made, fewer-nodes, makes-next}
+-- All nodes of the text's one tree are written.
+use Rattle.std.proofs.Common.{◌≡◌, ◌++◌, ◌∙◌, ap, map, refl, reverse}
+use Rattle.cfgx_parser.specs.nodes.{Shape.{shape}}
+use Rattle.cfg_expr.specs.nodes.StepWriting.{nothing, with_nodes}
+use Rattle.cfg_expr.proofs.{evaluated.Nodes.shapes-kept, stepped.Written.write-all}
 use Rattle.cfg_expr.proofs.expr.steps.steps_of.Goals as goal
-
-pub loop-tree-init : goal.loop-tree-init
-loop-tree-init g c =
-    let found = c.nodes-2.ensures.nodes in
-    let tree = found.0.tree in
-    record {
-      one = found.0;
-      left = tree ∷ [];
-      trees_are = ap (nodes_in c.args.condition.now) (c.in_ok-push.ensures.items
-          ∙ ap (λ l. l ++ c.nodes-2.result ∷ []) c.new-trees.ensures.items)
-          ∙ ap (λ l. l ∷ []) found.1;
-      makes = ap (λ l. flat_map steps_of (tree ∷ []) ++ reverse l) c.in_ok-steps.ensures.items
-          ∙ append-nil (steps_of tree ++ []) ∙ append-nil (steps_of tree);
-    }
-
-pub loop-tree-smaller : goal.loop-tree-smaller
-loop-tree-smaller g c = fewer-nodes c.args.condition.now c.in-Some.tree c.loop-tree.invariant
-    c.in-Some.ensures.items (c.in_ok-push_step.ensures c.args.condition.now)
-
-pub loop-tree-preserved : goal.loop-tree-preserved
-loop-tree-preserved g c = makes-next c.args.condition.now c.in-Some.tree c.loop-tree.invariant
-    c.in-Some.ensures.items (c.in_ok-push_step.ensures c.args.condition.now)
 
 pub returns : goal.returns
 returns g c =
-    let trees = c.loop-tree.trees in
-    let none = nil_from_length trees.items (sym trees.ok.0 ∙ c.in_default.ensures.cases.0) in (
-      c.loop-tree.invariant.one,
-      c.reverse.ensures.items
-          ∙ all-made c.args.condition.now trees.items c.loop-tree.steps.items
-          c.loop-tree.invariant none,
+    let found = c.nodes-nodes.ensures.nodes in
+    let shapes = shapes-kept c.nodes-nodes.result.now found found.0 in
+    let begins : record {
+      begun = reverse c.new.result.items;
+      leaves = c.new-2.result.items;
+      steps = c.in_ok-with_capacity.field-0.items;
+    } ≡ nothing = rw (c.new.ensures.items, c.new-2.ensures.items)
+    (rw c.in_ok-with_capacity.ensures.items refl) in (
+      found.0,
+      c.in_ok-end_leaves.ensures.steps ∙ ap (λ w. w.steps ++ w.leaves)
+          (c.in_ok-write_nodes.ensures
+          ∙ ap (with_nodes (map shape c.nodes-nodes.result.now)) begins
+          ∙ ap (λ l. with_nodes l nothing) shapes) ∙ write-all found.0.tree,
     )
