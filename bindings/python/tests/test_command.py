@@ -165,10 +165,10 @@ class Statuses(Made):
         self.assertRegex(message, r"\Arustc could not be run: .*\n\Z")
 
     def test_no_library(self):
-        status, output, message = self.on_target(CFGX_LIBRARY="/nowhere/libcfgx.so.2.1")
+        status, output, message = self.on_target(CFGX_LIBRARY="/nowhere/libcfgx.so.2.2")
         self.assertEqual((status, output), (1, ""))
-        self.assertRegex(message, r"\A.*ImportError: cfgx cannot load /nowhere/libcfgx.so.2.1 \("
-                                  r".* let CFGX_LIBRARY name the file libcfgx.so.2.1\)\n\Z")
+        self.assertRegex(message, r"\A.*ImportError: cfgx cannot load /nowhere/libcfgx.so.2.2 \("
+                                  r".* let CFGX_LIBRARY name the file libcfgx.so.2.2\)\n\Z")
 
     @needs("/dev/full", untested="an output on a full device")
     def test_a_full_device(self):

@@ -122,12 +122,12 @@ class Finding(unittest.TestCase):
     """How the library is found."""
 
     def test_a_library_that_is_not_there(self):
-        run = python("import cfgx", CFGX_LIBRARY="/nowhere/libcfgx.so.2.1")
+        run = python("import cfgx", CFGX_LIBRARY="/nowhere/libcfgx.so.2.2")
         self.assertEqual(run.returncode, 1)
         line = run.stderr.decode().splitlines()[-1]
-        begin = "ImportError: cfgx cannot load /nowhere/libcfgx.so.2.1 ("
+        begin = "ImportError: cfgx cannot load /nowhere/libcfgx.so.2.2 ("
         self.assertTrue(line.startswith(begin), line)
-        self.assertTrue(line.endswith("let CFGX_LIBRARY name the file libcfgx.so.2.1"), line)
+        self.assertTrue(line.endswith("let CFGX_LIBRARY name the file libcfgx.so.2.2"), line)
 
     def test_another_library(self):
         for path in (sys.executable, __file__):
@@ -156,15 +156,15 @@ class Finding(unittest.TestCase):
         with tempfile.TemporaryDirectory() as folder:
             package = os.path.join(folder, "cfgx")
             shutil.copytree(os.path.join(PACKAGE, "cfgx"), package)
-            shutil.copy(_library.path_of(), os.path.join(package, "libcfgx.so.2.1"))
+            shutil.copy(_library.path_of(), os.path.join(package, "libcfgx.so.2.2"))
             run = python("import cfgx; print(cfgx._library.path_of())", folder)
-        self.assertEqual(run.stdout.decode(), f"{package}/libcfgx.so.2.1\n", run.stderr)
+        self.assertEqual(run.stdout.decode(), f"{package}/libcfgx.so.2.2\n", run.stderr)
 
     def test_a_library_that_the_loader_finds(self):
         with tempfile.TemporaryDirectory() as folder:
-            shutil.copy(_library.path_of(), os.path.join(folder, "libcfgx.so.2.1"))
+            shutil.copy(_library.path_of(), os.path.join(folder, "libcfgx.so.2.2"))
             run = python("import cfgx; print(cfgx._library.path_of())", LD_LIBRARY_PATH=folder)
-        self.assertEqual(run.stdout.decode(), "libcfgx.so.2.1\n", run.stderr)
+        self.assertEqual(run.stdout.decode(), "libcfgx.so.2.2\n", run.stderr)
 
 
 class Versions(unittest.TestCase):
@@ -178,12 +178,12 @@ class Versions(unittest.TestCase):
             return _library.load("some.so")
 
     def test_versions(self):
-        for number in (2001000, 2001007):
+        for number in (2002000, 2002007):
             self.assertEqual(self.load(number).cfgx_version(), number)
-        for number, name in [(2002000, "2.2.0"), (2000999, "2.0.999"), (3001000, "3.1.0")]:
+        for number, name in [(2003000, "2.3.0"), (2001999, "2.1.999"), (3002000, "3.2.0")]:
             with self.assertRaises(ImportError) as caught:
                 self.load(number)
-            wanted = "cfgx needs version 2.1.0 of libcfgx.so.2.1 or a later 2.1, and some.so has"
+            wanted = "cfgx needs version 2.2.0 of libcfgx.so.2.2 or a later 2.2, and some.so has"
             self.assertEqual(str(caught.exception), f"{wanted} version {name}")
 
 

@@ -6,7 +6,7 @@ import ctypes
 import sys
 from ctypes import POINTER, c_char_p, c_size_t, c_uint8, c_uint32
 
-VERSION = 2_001_000
+VERSION = 2_002_000
 DONE, FAULTY, WRONG_USE, OUT_OF_MEMORY, NOT_UTF8, FAULTY_FACT = 0, 1, 2, 3, 4, 9
 STATUSES = (
     "done", "a faulty text", "wrong use", "out of memory", "not UTF-8", "miscounted answers",
@@ -120,7 +120,7 @@ def filled(item, call):
 class Cfgx:
     """The library at a path."""
 
-    def __init__(self, path="libcfgx.so.2.1"):
+    def __init__(self, path="libcfgx.so.2.2"):
         self.library = ctypes.CDLL(path)
         version = self.version()
         if version // 1000 != VERSION // 1000 or version < VERSION:

@@ -97,7 +97,7 @@ const MEANINGS: [&str; 10] = [
 ];
 
 /// The version of the calls above.
-const VERSION: u32 = 2_001_000;
+const VERSION: u32 = 2_002_000;
 
 const DONE: u32 = 0;
 const FAULTY: u32 = 1;

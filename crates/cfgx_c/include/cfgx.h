@@ -24,7 +24,7 @@
  *
  * If several statuses apply, a call returns the first of these: CFGX_STATUS_BAD_ENDS;
  * CFGX_STATUS_TOO_LARGE; CFGX_STATUS_NOT_UTF8 or CFGX_STATUS_FAULTY, for the first text that is not
- * UTF-8 or no condition; CFGX_STATUS_FAULTY_FACT; CFGX_STATUS_NO_TREE; CFGX_STATUS_MISCOUNTED. The
+ * UTF-8 or no condition; CFGX_STATUS_FAULTY_FACT; CFGX_STATUS_NO_VALUE; CFGX_STATUS_MISCOUNTED. The
  * order of `cfgx_run` is: CFGX_STATUS_BAD_ENDS; CFGX_STATUS_NOT_UTF8, for any word;
  * CFGX_STATUS_WRONG_USE; CFGX_STATUS_FAULTY. A call may return CFGX_STATUS_OUT_OF_MEMORY in place
  * of every status but CFGX_STATUS_BAD_ENDS and CFGX_STATUS_TOO_LARGE.
@@ -50,7 +50,7 @@ extern "C" {
 
 /* The version of the language of conditions, and that of these calls. */
 #define CFGX_VERSION_LANGUAGE 2
-#define CFGX_VERSION_MAJOR 1
+#define CFGX_VERSION_MAJOR 2
 #define CFGX_VERSION_MINOR 0
 #define CFGX_VERSION \
     (CFGX_VERSION_LANGUAGE * 1000000 + CFGX_VERSION_MAJOR * 1000 + CFGX_VERSION_MINOR)
@@ -71,7 +71,7 @@ uint32_t cfgx_version(void);
 #define CFGX_STATUS_NOT_UTF8 4      /* a text or a word is not UTF-8 */
 #define CFGX_STATUS_MISCOUNTED 5    /* the numbers of answers and predicates differ */
 #define CFGX_STATUS_BAD_ENDS 6      /* ends decrease, or the last is not the number of items */
-#define CFGX_STATUS_NO_TREE 7       /* no condition has these steps */
+#define CFGX_STATUS_NO_VALUE 7      /* the steps have no value over any answers */
 #define CFGX_STATUS_TOO_LARGE 8     /* the number of values does not fit in a size_t */
 #define CFGX_STATUS_FAULTY_FACT 9   /* a fact is faulty or not UTF-8 */
 
@@ -273,12 +273,13 @@ uint32_t cfgx_compile(const char *text, size_t text_length,
                       struct cfgx_predicate *predicates, size_t predicate_room,
                       size_t *predicates_needed);
 
-/* Computes the value of the condition that has these steps from the answers to its predicates. Any
- * steps may be passed, such as those of a damaged file. Returns CFGX_STATUS_DONE, and writes the
- * value to `*value`. Returns CFGX_STATUS_NO_TREE if no condition has these steps. A list asks its
- * functions first, so no condition has ASK, ASK, NOT, ALL 2. None has an empty array of steps.
- * Returns CFGX_STATUS_MISCOUNTED if they ask more or fewer predicates than there are answers, or
- * CFGX_STATUS_OUT_OF_MEMORY. With every status but CFGX_STATUS_DONE, `*value` stays as it was. */
+/* Computes the value of steps over answers, with a stack as `cfgx_compile` describes it. Any steps
+ * may be passed, such as those of a damaged file. Returns CFGX_STATUS_DONE, and writes the value to
+ * `*value`. Returns CFGX_STATUS_NO_VALUE if a step pops more values than there are, not exactly one
+ * value is left at the end, a kind is unknown, or a count is not what `cfgx_step` says. Returns
+ * CFGX_STATUS_MISCOUNTED if the steps have a value over more or fewer answers, or
+ * CFGX_STATUS_OUT_OF_MEMORY, which up to 33 steps and 33 answers never do. With every status but
+ * CFGX_STATUS_DONE, `*value` stays as it was. */
 uint32_t cfgx_apply(const struct cfgx_step *steps, size_t step_count,
                     const uint8_t *answers, size_t answer_count, uint8_t *value);
 

@@ -1,18 +1,16 @@
 -- Steps as C sees them stand for one list of steps.
 use Rattle.std.proofs.Common.{◌≡◌, ◌==◌, ◌<◌, ◌∙◌, ℕ, List, [], ◌∷◌, ap, false, get_or}
-use Rattle.std.proofs.Common.{arith, if◌then◌else◌, length, map, refl, sym, true}
-use Rattle.std.proofs.Common.{Bool, Option}
+use Rattle.std.proofs.Common.{arith, if◌then◌else◌, inl, length, map, refl, subst, sym, true}
+use Rattle.std.proofs.Common.{Bool, Option, Some}
 use Rattle.std.proofs.lemmas.List.{get_or-map, length-map}
 use Rattle.cfg_expr.specs.Filling.{three_valued}
-use Rattle.cfgx_grammar.specs.Question.{Question}
-use Rattle.cfgx_grammar.specs.Tree.{Tree}
-use Rattle.cfg_expr.specs.Steps.{HasSteps, HaveNoValue, IsValueOfSteps}
+use Rattle.cfg_expr.specs.Steps.{Fail, HaveNoValue, run_steps}
 use Rattle.cfg_expr.specs.declared.expr.steps.Step.{Step}
 use Rattle.cfg_expr.specs.declared.expr.steps.Step.TheVariants.{Ask, Literal, Not, All, Any}
 use Rattle.cfg_expr.specs.declared.expr.steps.StepsError.{StepsError}
 use Rattle.cfg_expr.specs.declared.expr.steps.StepsError.TheVariants as error
 use Rattle.cfgx_c.specs.{Value.answer_of, Value.byte_of_value, internal.Applying.DoNotApply}
-use Rattle.cfgx_c.specs.Steps.{Applies, HasCSteps, c_step}
+use Rattle.cfgx_c.specs.Steps.{Applies, c_step}
 use Rattle.cfgx_c.specs.declared.steps.CfgxStep.{CfgxStep}
 
 -- the step, if there is one, that C sees so
@@ -33,16 +31,10 @@ all_back : (steps : List Step) → map step_back (map c_step steps) ≡ steps
 all_back [] = refl
 all_back (step ∷ steps) = rw (step_back-c_step step, all_back steps) refl
 
--- a tree that has the steps has them as C sees them, and none other has
-pub has_c_steps : (steps : List Step) (seen : List CfgxStep) → map c_step steps ≡ seen
-    → (tree : Tree Question) → HasSteps steps tree → HasCSteps seen tree
-has_c_steps steps seen are tree has = record { are = ap (map c_step) has.are ∙ are }
-
-pub has_steps : (steps : List Step) (seen : List CfgxStep) → map c_step steps ≡ seen
-    → (tree : Tree Question) → HasCSteps seen tree → HasSteps steps tree
-has_steps steps seen are tree has = record {
-  are = sym (all_back _) ∙ ap (map step_back) (has.are ∙ sym are) ∙ all_back steps;
-}
+-- different steps look different
+same_steps : (steps others : List Step) → map c_step others ≡ map c_step steps → steps ≡ others
+same_steps steps others are =
+    sym (all_back steps) ∙ ap (map step_back) (sym are) ∙ all_back others
 
 -- where one step is none, the list is that of no steps
 pub no_steps : (seen : List CfgxStep) (i : ℕ) (otherwise : CfgxStep) → i < length seen
@@ -57,21 +49,16 @@ module _ (steps : List Step) (seen : List CfgxStep) (are : map c_step steps ≡ 
     (bytes : List ℕ) where
   -- the value of steps, and why they have none, as C sees them
   pub Applies-read : (value : Option Bool)
-      → IsValueOfSteps three_valued steps (map answer_of bytes) value
+      → run_steps three_valued steps (map answer_of bytes) [] ≡ Some value
       → Applies seen bytes (byte_of_value value)
-  Applies-read value of = record {
-    tree = of.tree;
-    has = has_c_steps steps seen are of.tree of.has;
-    count = sym (length-map bytes answer_of) ∙ of.count;
-    every = λ other has. ap byte_of_value (of.every other (has_steps steps seen are other has));
-  }
+  Applies-read value runs =
+      record { steps = steps; are = are; of = value; runs = runs; value_is = refl }
 
   pub DoNotApply-read : (failed : StepsError)
-      → HaveNoValue steps (length (map answer_of bytes)) failed → DoNotApply seen bytes failed
-  DoNotApply-read error.NoTree fails = λ tree has. fails tree (has_steps steps seen are tree has)
-  DoNotApply-read error.Miscounted fails = (
-    fails.0,
-    has_c_steps steps seen are fails.0 fails.1,
-    rw (length-map bytes answer_of) at fails.2,
-  )
-  DoNotApply-read (error.Memory refused) fails = tt
+      → Fail three_valued steps (map answer_of bytes) failed → DoNotApply seen bytes failed
+  DoNotApply-read error.NoValue fails = λ others seen_so.
+      subst (HaveNoValue three_valued) (same_steps steps others (seen_so ∙ sym are)) fails
+  DoNotApply-read error.Miscounted fails =
+      record { steps = steps; are = are; miscounted = fails }
+  DoNotApply-read (error.Memory refused) fails =
+      inl (omega (arith, fails, ap length are, length-map steps c_step))

@@ -30,9 +30,9 @@ miscounted = 5
 abbrev pub bad_ends : ℕ
 bad_ends = 6
 
--- the steps are those of no condition
-abbrev pub no_tree : ℕ
-no_tree = 7
+-- over no answers do the steps have a value
+abbrev pub no_value : ℕ
+no_value = 7
 
 -- the number of values does not fit in a `size_t`
 abbrev pub too_large : ℕ

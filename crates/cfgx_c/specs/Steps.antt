@@ -1,13 +1,10 @@
 -- Steps as C sees them, and what `cfgx_compile` and `cfgx_apply` promise.
 -- Source: include/cfgx.h.
-use Rattle.std.specs.Prelude.{◌≡◌, ◌≢◌, ℕ, true, false, List, length, map}
+use Rattle.std.specs.Prelude.{◌≡◌, ℕ, Bool, true, false, List, [], Option, Some, length, map}
 use Rattle.cfgx_syntax.specs.Stripping.{strip}
 use Rattle.cfgx_grammar.specs.Answer.{HasOneTree}
 use Rattle.cfg_expr.specs.Filling.{three_valued}
-use Rattle.cfg_expr.specs.Fold.{tree_fold}
-use Rattle.cfgx_grammar.specs.Question.{Question}
-use Rattle.cfgx_grammar.specs.Tree.{Tree, asked}
-use Rattle.cfg_expr.specs.Steps.{steps_of}
+use Rattle.cfg_expr.specs.Steps.{AreMiscounted, HaveNoValue, run_steps, steps_of}
 use Rattle.cfg_expr.specs.declared.expr.steps.Step.{Step}
 use Rattle.cfg_expr.specs.declared.expr.steps.Step.TheVariants.{Ask, Literal, Not, All, Any}
 use Rattle.cfgx_c.specs.Buffer.{FillsBoth}
@@ -36,20 +33,20 @@ pub record Compiles (text : List ℕ) (old_steps new_steps : List CfgxStep) (ste
   pub steps_needed_is : steps_needed ≡ length (steps_of one.tree)
   pub predicates_needed_is : predicates_needed ≡ length predicates
 
--- a tree that has these steps
-pub record HasCSteps (steps : List CfgxStep) (tree : Tree Question) : Type 0 where
-  pub are : map c_step (steps_of tree) ≡ steps
+-- the steps of which C sees these have this value over the answers
+pub record Applies (seen : List CfgxStep) (answers : List ℕ) (value : ℕ) : Type 0 where
+  pub steps : List Step
+  pub are : map c_step steps ≡ seen
+  pub of : Option Bool
+  pub runs : run_steps three_valued steps (map answer_of answers) [] ≡ Some of
+  pub value_is : value ≡ byte_of_value of
 
--- there is such a tree, and over the answers, one for each predicate that it asks, every such tree
--- has this value
-pub record Applies (steps : List CfgxStep) (answers : List ℕ) (value : ℕ) : Type 0 where
-  pub tree : Tree Question
-  pub has : HasCSteps steps tree
-  pub count : length answers ≡ length (asked tree)
-  pub every : (other : Tree Question) → HasCSteps steps other
-      → value ≡ byte_of_value (tree_fold three_valued other (map answer_of answers))
+-- over no answers do the steps of which C sees these have a value, or there are no such steps
+abbrev pub HaveNoCValue : List CfgxStep → Type 0
+HaveNoCValue seen = (steps : List Step) → map c_step steps ≡ seen → HaveNoValue three_valued steps
 
--- there is such a tree, and it asks more or fewer predicates than there are answers
-abbrev pub IsMiscounted : List CfgxStep → List ℕ → Type 0
-IsMiscounted steps answers =
-    (tree : Tree Question) × HasCSteps steps tree × (length answers ≢ length (asked tree))
+-- the steps of which C sees these have a value over another number of answers
+pub record AreCMiscounted (seen : List CfgxStep) (answers : List ℕ) : Type 0 where
+  pub steps : List Step
+  pub are : map c_step steps ≡ seen
+  pub miscounted : AreMiscounted three_valued steps (map answer_of answers)

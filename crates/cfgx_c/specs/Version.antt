@@ -9,7 +9,7 @@ language = 2
 -- the version of the calls: a program that uses the calls of one major version can use those of no
 -- other, and those of a minor version with each higher one
 abbrev pub major : ℕ
-major = 1
+major = 2
 
 abbrev pub minor : ℕ
 minor = 0

@@ -1,6 +1,6 @@
 // Answers and values as bytes.
 
-ghost use Rattle.std.specs.Prelude.{◌≡◌, IfOk, drop, map};
+ghost use Rattle.std.specs.Prelude.{◌≡◌, ◌<◌, IfOk, OnErr, drop, length, map};
 ghost use Rattle.cfgx_grammar.specs.Answer.{HasOneTree};
 ghost use Rattle.cfg_expr.specs.Filling.{three_valued};
 ghost use Rattle.cfg_expr.specs.Fold.{tree_fold};
@@ -39,7 +39,8 @@ pub(crate) fn answers_of<'a>(
     alloc: &'a Global,
     bytes: &[u8],
 ) -> Result<SmallVec<Option<bool>, 33, &'a Global>, AllocError>
-    ensures { IfOk result (λ answers. answers.items ≡ map answer_of bytes.now) }
+    ensures answers { IfOk result (λ answers. answers.items ≡ map answer_of bytes.now) }
+    ensures short { OnErr result (33 < length bytes.now) }
 {
     let mut answers = SmallVec::with_capacity(alloc, bytes.len())?;
     for byte in bytes {

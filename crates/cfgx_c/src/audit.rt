@@ -10,7 +10,7 @@ ghost use Rattle.cfgx_c.specs.Answers.{IsFirstNotUtf8};
 ghost use Rattle.cfgx_c.specs.Audit.{AreAllEnds, FillsValues, ValuesBy};
 ghost use Rattle.cfgx_c.specs.Ends.{parts};
 ghost use Rattle.cfgx_c.specs.internal.Reading.{FailsFor, FailsForTexts, views};
-ghost use Rattle.cfgx_c.specs.Status.{bad_ends, done, faulty, faulty_fact, miscounted, no_tree};
+ghost use Rattle.cfgx_c.specs.Status.{bad_ends, done, faulty, faulty_fact, miscounted, no_value};
 ghost use Rattle.cfgx_c.specs.Status.{not_utf8, too_large, wrong_use};
 
 use crate::ends::{are_ends, parts, utf8_front};
@@ -124,7 +124,7 @@ pub extern "C" fn cfgx_audit(
     ensures place { result ≢ faulty → result ≢ not_utf8 → result ≢ faulty_fact
         → place.new ≡ place.old }
     ensures status { (result ≤ faulty_fact) × (result ≢ wrong_use) × (result ≢ miscounted)
-        × (result ≢ no_tree) }
+        × (result ≢ no_value) }
 {
     *needed = 0;
     if !are_ends(text_ends, texts.len())

@@ -13,7 +13,7 @@ ghost use Rattle.cfgx_c.specs.Answers.{IsFirstFaultyFact, otherwise_of};
 ghost use Rattle.cfgx_c.specs.Buffer.{Fills};
 ghost use Rattle.cfgx_c.specs.Ends.{AreEnds, parts};
 ghost use Rattle.cfgx_c.specs.internal.Reading.{FailsFor};
-ghost use Rattle.cfgx_c.specs.Status.{bad_ends, done, faulty, faulty_fact, miscounted, no_tree};
+ghost use Rattle.cfgx_c.specs.Status.{bad_ends, done, faulty, faulty_fact, miscounted, no_value};
 ghost use Rattle.cfgx_c.specs.Status.{not_utf8, too_large, wrong_use};
 ghost use Rattle.cfgx_c.specs.Value.{byte_of_value};
 
@@ -137,7 +137,7 @@ pub extern "C" fn cfgx_answers(
     ensures bad_ends { (result ≡ bad_ends) ↔ ¬ AreEnds fact_ends.now (length facts.now) }
     ensures kept { result ≢ done → (answers.new ≡ answers.old) × (needed.new ≡ 0) }
     ensures status { (result ≤ faulty_fact) × (result ≢ wrong_use) × (result ≢ miscounted)
-        × (result ≢ no_tree) × (result ≢ too_large) }
+        × (result ≢ no_value) × (result ≢ too_large) }
 {
     *needed = 0;
     if !are_ends(fact_ends, facts.len()) {

@@ -21,8 +21,8 @@ pub(crate) const MISCOUNTED: u32 = 5;
 /// An end is less than the one before it, or the last one is not the number of items.
 pub(crate) const BAD_ENDS: u32 = 6;
 
-/// The steps are those of no condition.
-pub(crate) const NO_TREE: u32 = 7;
+/// Over no answers do the steps have a value.
+pub(crate) const NO_VALUE: u32 = 7;
 
 /// The number of values does not fit in a `usize`.
 pub(crate) const TOO_LARGE: u32 = 8;

@@ -7,7 +7,7 @@ ghost use Rattle.cfgx_c.specs.Version.{version};
 const LANGUAGE: u32 = 2;
 
 /// The major version of the calls.
-const MAJOR: u32 = 1;
+const MAJOR: u32 = 2;
 
 /// The minor version of the calls.
 const MINOR: u32 = 0;

@@ -28,7 +28,7 @@ struct row {
 #define NOT_8 NOT, NOT, NOT, NOT, NOT, NOT, NOT, NOT
 #define VALUE(value) CFGX_STATUS_DONE, CFGX_VALUE_##value
 #define MISCOUNTED CFGX_STATUS_MISCOUNTED, 0
-#define NO_TREE CFGX_STATUS_NO_TREE, 0
+#define NO_VALUE CFGX_STATUS_NO_VALUE, 0
 
 static const struct row rows[] = {
     {1, {TRUE}, TEXT(""), VALUE(TRUE)},
@@ -64,24 +64,26 @@ static const struct row rows[] = {
     {33, {ASK_8, ASK_8, ASK_8, ASK_8, ALL(32)},
      TEXT("\1\1\1\1\1\1\1\1\1\1\1\1\1\1\1\1\1\1\1\1\1\1\1\1\1\1\1\1\1\1\1\1\1"), MISCOUNTED},
 
-    {0, {TRUE}, TEXT(""), NO_TREE},
-    {2, {TRUE, TRUE}, TEXT(""), NO_TREE},
-    {2, {ASK, ASK}, TEXT("\1\1"), NO_TREE},
-    {1, {NOT}, TEXT(""), NO_TREE},
-    {2, {ASK, ALL(2)}, TEXT("\1"), NO_TREE},
-    {2, {ASK, ALL(SIZE_MAX)}, TEXT("\1"), NO_TREE},
-    {2, {TRUE, ANY(SIZE_MAX / 16 + 2)}, TEXT(""), NO_TREE},
-    {2, {ASK, {CFGX_STEP_NOT, 0}}, TEXT("\1"), NO_TREE},
-    {3, {ASK, ASK, {CFGX_STEP_NOT, 2}}, TEXT("\1\1"), NO_TREE},
-    {1, {{CFGX_STEP_ASK, 1}}, TEXT("\1"), NO_TREE},
-    {1, {{CFGX_STEP_TRUE, 1}}, TEXT(""), NO_TREE},
-    {1, {{CFGX_STEP_FALSE, SIZE_MAX}}, TEXT(""), NO_TREE},
-    {1, {{6, 0}}, TEXT(""), NO_TREE},
-    {2, {ASK, {UINT32_MAX, 1}}, TEXT("\1"), NO_TREE},
-    /* The functions of a list come before its predicates and literals. */
-    {4, {ASK, ASK, NOT, ALL(2)}, TEXT("\1\1"), NO_TREE},
-    {3, {TRUE, ALL(0), ANY(2)}, TEXT(""), NO_TREE},
-    {5, {ALL(0), TRUE, ALL(0), ASK, ANY(4)}, TEXT("\1"), NO_TREE},
+    {0, {TRUE}, TEXT(""), NO_VALUE},
+    {2, {TRUE, TRUE}, TEXT(""), NO_VALUE},
+    {2, {ASK, ASK}, TEXT("\1\1"), NO_VALUE},
+    {1, {NOT}, TEXT(""), NO_VALUE},
+    {2, {ASK, ALL(2)}, TEXT("\1"), NO_VALUE},
+    {2, {ASK, ALL(SIZE_MAX)}, TEXT("\1"), NO_VALUE},
+    {2, {TRUE, ANY(SIZE_MAX / 16 + 2)}, TEXT(""), NO_VALUE},
+    {2, {ASK, {CFGX_STEP_NOT, 0}}, TEXT("\1"), NO_VALUE},
+    {3, {ASK, ASK, {CFGX_STEP_NOT, 2}}, TEXT("\1\1"), NO_VALUE},
+    {1, {{CFGX_STEP_ASK, 1}}, TEXT("\1"), NO_VALUE},
+    {1, {{CFGX_STEP_TRUE, 1}}, TEXT(""), NO_VALUE},
+    {1, {{CFGX_STEP_FALSE, SIZE_MAX}}, TEXT(""), NO_VALUE},
+    {1, {{6, 0}}, TEXT(""), NO_VALUE},
+    {2, {ASK, {UINT32_MAX, 1}}, TEXT("\1"), NO_VALUE},
+    {2, {ASK, ASK}, TEXT("\1"), NO_VALUE},
+    /* In a condition, the functions of a list come before its predicates and literals. */
+    {4, {ASK, ASK, NOT, ALL(2)}, TEXT("\1\1"), VALUE(FALSE)},
+    {3, {TRUE, ALL(0), ANY(2)}, TEXT(""), VALUE(TRUE)},
+    {5, {ALL(0), TRUE, ALL(0), ASK, ANY(4)}, TEXT("\1"), VALUE(TRUE)},
+    {4, {ASK, ASK, NOT, ALL(2)}, TEXT("\1"), MISCOUNTED},
 };
 
 static struct text steps_of(const struct row *row)
@@ -104,92 +106,78 @@ static void call(const void *item, size_t room, uint32_t status)
     expect_filled(value, &row->value, status == CFGX_STATUS_DONE);
 }
 
-/* A value on the stack of this test, and whether it is that of a function. */
-struct entry {
-    uint8_t value;
-    int is_function;
-};
-
-/* Returns the value of `all` or `any` over the entries. */
-static uint8_t list_value(uint32_t kind, const struct entry *entry, size_t count)
+/* Returns the value of `all` or `any` over the values. */
+static uint8_t list_value(uint32_t kind, const uint8_t *values, size_t count)
 {
     uint8_t deciding = kind == CFGX_STEP_ALL ? CFGX_VALUE_FALSE : CFGX_VALUE_TRUE;
     uint8_t value = !deciding;
     for (size_t i = 0; i < count; i++) {
-        if (entry[i].value == deciding) {
+        if (values[i] == deciding) {
             return deciding;
         }
-        if (entry[i].value == CFGX_VALUE_UNKNOWN) {
+        if (values[i] == CFGX_VALUE_UNKNOWN) {
             value = CFGX_VALUE_UNKNOWN;
         }
     }
     return value;
 }
 
-/* Returns the value of a function over the entries. */
-static uint8_t function_value(uint32_t kind, const struct entry *entry, size_t count)
+/* Returns the value of a function over the values. */
+static uint8_t function_value(uint32_t kind, const uint8_t *values, size_t count)
 {
     if (kind != CFGX_STEP_NOT) {
-        return list_value(kind, entry, count);
+        return list_value(kind, values, count);
     }
-    return entry->value == CFGX_VALUE_UNKNOWN ? CFGX_VALUE_UNKNOWN : !entry->value;
+    return *values == CFGX_VALUE_UNKNOWN ? CFGX_VALUE_UNKNOWN : !*values;
 }
 
-/* Returns whether no function comes behind a predicate or a literal. */
-static int are_arranged(const struct entry *entry, size_t count)
+/* Returns whether the count suits the kind, and the stack has the values that the step pops. */
+static int can_run(struct cfgx_step step, size_t depth)
 {
-    size_t i = 1;
-    while (i < count && entry[i].is_function <= entry[i - 1].is_function) {
-        i++;
+    if (step.kind <= CFGX_STEP_ASK) {
+        return step.count == 0;
     }
-    return i >= count;
-}
-
-/* Returns whether a step behind CFGX_STEP_ASK is a function of the last entries. */
-static int is_function_of(struct cfgx_step step, const struct entry *stack, size_t depth)
-{
     if (step.kind > CFGX_STEP_ANY || (step.kind == CFGX_STEP_NOT && step.count != 1)) {
         return 0;
     }
-    return step.count <= depth && are_arranged(stack + depth - step.count, step.count);
+    return step.count <= depth;
 }
 
 /* Sets the status and the value that the row has, by a stack of its own. */
 static void evaluate(struct row *row)
 {
-    struct entry stack[MOST];
+    uint8_t stack[MOST];
     size_t depth = 0, asked = 0;
-    row->status = CFGX_STATUS_NO_TREE;
+    row->status = CFGX_STATUS_NO_VALUE;
     for (size_t i = 0; i < row->step_count; i++) {
         struct cfgx_step step = row->steps[i];
-        struct entry entry = {(uint8_t)step.kind, step.kind > CFGX_STEP_ASK};
-        if (entry.is_function ? !is_function_of(step, stack, depth) : step.count != 0) {
+        uint8_t value = (uint8_t)step.kind;
+        if (!can_run(step, depth)) {
             return;
         }
+        depth -= step.count;
         if (step.kind == CFGX_STEP_ASK) {
             uint8_t answer = asked < row->answers.length ? (uint8_t)row->answers.bytes[asked] : 0;
-            entry.value = answer <= CFGX_VALUE_TRUE ? answer : CFGX_VALUE_UNKNOWN;
+            value = answer <= CFGX_VALUE_TRUE ? answer : CFGX_VALUE_UNKNOWN;
             asked++;
+        } else if (step.kind > CFGX_STEP_ASK) {
+            value = function_value(step.kind, stack + depth, step.count);
         }
-        depth -= step.count;
-        if (entry.is_function) {
-            entry.value = function_value(step.kind, stack + depth, step.count);
-        }
-        stack[depth++] = entry;
+        stack[depth++] = value;
     }
     if (depth == 1) {
         row->status = asked == row->answers.length ? CFGX_STATUS_DONE : CFGX_STATUS_MISCOUNTED;
-        row->value = stack[0].value;
+        row->value = stack[0];
     }
 }
 
 /* Expects that a short row takes no memory, and that a longer one takes some. A longer row without
- * a tree may end before it takes any. */
+ * a value may end before it takes any. */
 static void expect_growths(const struct row *row, size_t growths)
 {
     if (row->step_count <= INLINE && row->answers.length <= INLINE) {
         expect_number("the number of growths", growths, 0);
-    } else if (row->status != CFGX_STATUS_NO_TREE) {
+    } else if (row->status != CFGX_STATUS_NO_VALUE) {
         expect_number("whether a growth was counted", growths > 0, 1);
     }
 }

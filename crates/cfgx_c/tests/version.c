@@ -29,7 +29,7 @@ int main(void)
 {
     struct text name = TEXT("CFGX_VERSION");
     begin_row(name);
-    expect_number("the version of the header", CFGX_VERSION, 2001000);
+    expect_number("the version of the header", CFGX_VERSION, 2002000);
     expect_number("the version of the library", cfgx_version(), CFGX_VERSION);
     return finish("cfgx_version", 0);
 }

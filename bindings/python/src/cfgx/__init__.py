@@ -10,7 +10,7 @@ True
 
 `None` is an unknown answer, and an unknown value.
 
-The package calls the engine in the shared object `libcfgx.so.2.1`, which it loads when it is
+The package calls the engine in the shared object `libcfgx.so.2.2`, which it loads when it is
 imported: the file that the environment variable `CFGX_LIBRARY` names, else the one in the folder of
 the package, else the one that the loader finds. `ImportError` says what to do if there is none.
 

@@ -7,7 +7,7 @@ import os
 from ctypes import POINTER, c_char_p, c_size_t, c_uint8, c_uint32
 from typing import Any, Callable, List, Optional, Sequence, Tuple
 
-NAME = "libcfgx.so.2.1"
+NAME = "libcfgx.so.2.2"
 LANGUAGE, MAJOR, MINOR = 2, 1, 0
 
 # The statuses that calls return.

@@ -16,7 +16,7 @@ macro_rules! numbers {
 
 numbers! {
     VERSION_LANGUAGE = 2,
-    VERSION_MAJOR = 1,
+    VERSION_MAJOR = 2,
     VERSION_MINOR = 0,
     STATUS_DONE = 0,
     STATUS_FAULTY = 1,
@@ -25,7 +25,7 @@ numbers! {
     STATUS_NOT_UTF8 = 4,
     STATUS_MISCOUNTED = 5,
     STATUS_BAD_ENDS = 6,
-    STATUS_NO_TREE = 7,
+    STATUS_NO_VALUE = 7,
     STATUS_TOO_LARGE = 8,
     STATUS_FAULTY_FACT = 9,
     VALUE_FALSE = 0,

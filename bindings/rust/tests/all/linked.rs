@@ -33,17 +33,17 @@ audited true
 /// The versions of libraries, and whether this crate takes them: those of the same language and the
 /// same major version, whose minor version is no lower.
 const VERSIONS: &[(&str, bool)] = &[
-    ("2001000", true),
-    ("2001001", true),
-    ("2001999", true),
-    ("2000999", false),
+    ("2002000", true),
+    ("2002001", true),
+    ("2002999", true),
+    ("2001999", false),
     ("2000000", false),
-    ("2002000", false),
-    ("2010000", false),
-    ("1001000", false),
+    ("2003000", false),
+    ("2020000", false),
+    ("1002000", false),
     ("1999999", false),
-    ("3001000", false),
-    ("1000", false),
+    ("3002000", false),
+    ("2000", false),
     ("0", false),
 ];
 

@@ -35,17 +35,17 @@ ask not | 1 | false
 false | 0 | false
 ask ask all2 | 2 | true
 any0 | 0 | false
-ask any0 all2 | 1 | no tree
+ask any0 all2 | 1 | false
 any0 ask all2 | 1 | false
 all0 ask all2 | 1 | true
-ask ask not all2 | 2 | no tree
- | 0 | no tree
-ask ask | 2 | no tree
-not | 0 | no tree
-all1 | 0 | no tree
-ask all2 | 1 | no tree
-ask all18446744073709551615 | 1 | no tree
-ask all2 | 3 | no tree
+ask ask not all2 | 2 | false
+ | 0 | no value
+ask ask | 2 | no value
+not | 0 | no value
+all1 | 0 | no value
+ask all2 | 1 | no value
+ask all18446744073709551615 | 1 | no value
+ask all2 | 3 | no value
 ask | 0 | miscounted
 ask | 2 | miscounted
 ask ask all2 | 1 | miscounted
@@ -114,7 +114,7 @@ fn outcome_of(value: Result<bool, StepsError>) -> &'static str {
     match value {
         Ok(true) => "true",
         Ok(false) => "false",
-        Err(StepsError::NoTree) => "no tree",
+        Err(StepsError::NoValue) => "no value",
         Err(StepsError::Miscounted) => "miscounted",
         Err(StepsError::Memory(_)) => "out of memory",
     }

@@ -1,16 +1,12 @@
--- The trees that have the steps are those that have them as C sees them.
+-- The steps that were read are those that C sees so.
 use Rattle.std.proofs.lemmas.Result.{IfErr-weaker, IfOk-weaker}
 use Rattle.cfgx_c.proofs.CSteps.{Applies-read, DoNotApply-read}
 use Rattle.cfgx_c.proofs.apply.eval_c_steps.Goals as goal
 
-pub returns-then-not-read_steps-clause-error : goal.returns-then-not-read_steps-clause-error
-returns-then-not-read_steps-clause-error c tree has =
-    (rw c.if-not-read_steps.true at c.read_steps.ensures) _ has.are
-
 pub returns-clause-value : goal.returns-clause-value
 returns-clause-value c =
     let read = rw c.if-not-read_steps.false at c.read_steps.ensures in
-    let value = rw (c.as_slice.ensures, c.as_slice-2.ensures, c.in_ok-answers.ensures) at
+    let value = rw (c.as_slice.ensures, c.as_slice-2.ensures, c.in_ok-answers.ensures.answers) at
     c.eval_steps.ensures.value in
     IfOk-weaker c.eval_steps.result _ _
     (Applies-read _ c.args.steps.now read c.args.answers.now) value
@@ -18,7 +14,7 @@ returns-clause-value c =
 pub returns-clause-error : goal.returns-clause-error
 returns-clause-error c =
     let read = rw c.if-not-read_steps.false at c.read_steps.ensures in
-    let error = rw (c.as_slice.ensures, c.as_slice-2.ensures, c.in_ok-answers.ensures) at
+    let error = rw (c.as_slice.ensures, c.as_slice-2.ensures, c.in_ok-answers.ensures.answers) at
     c.eval_steps.ensures.error in
     IfErr-weaker c.eval_steps.result _ _
     (DoNotApply-read _ c.args.steps.now read c.args.answers.now) error
