@@ -1,4 +1,5 @@
 pub mod Asked
+pub mod Copied
 pub mod Joined
 pub mod Nodes
 pub mod Placed

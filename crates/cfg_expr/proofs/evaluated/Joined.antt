@@ -7,8 +7,8 @@ use Rattle.cfg_expr.specs.Fold.{Operations, from_last}
 use Rattle.cfg_expr.specs.nodes.Reading.{Slot, identity_of, join_of, value_in, values_in}
 use Rattle.cfg_expr.specs.nodes.Reading.{without, joined}
 use Rattle.cfg_expr.specs.declared.expr.evaluating.Connective.{Connective}
-use Rattle.cfg_expr.specs.declared.expr.evaluating.Kind.{Kind}
-use Rattle.cfg_expr.specs.declared.expr.evaluating.Kind.TheVariants as kind
+use Rattle.cfg_expr.specs.declared.expr.evaluating.Form.{Form}
+use Rattle.cfg_expr.specs.declared.expr.evaluating.Form.TheVariants as form
 use Rattle.cfg_expr.specs.declared.expr.evaluating.Slot.TheVariants as slot
 
 from_last-append : {T : Type 0} (join : T → T → T) (begin : T) (xs ys : List T)
@@ -19,7 +19,7 @@ from_last-append join begin (x ∷ xs) ys =
 
 -- without the leaves the functions stay
 values-without : {T : Type 0} (members : List (Slot T))
-    → values_in kind.Function (map (without kind.Leaf) members) ≡ values_in kind.Function members
+    → values_in form.Function (map (without form.Leaf) members) ≡ values_in form.Function members
 values-without [] = refl
 values-without (slot.Leaf value ∷ members) = values-without members
 values-without (first ∷ members) = rw (values-without members) refl
@@ -27,15 +27,15 @@ values-without (first ∷ members) = rw (values-without members) refl
 -- two passes join all members
 pub joined-twice : {T : Type 0} (logic : Operations T) (connective : Connective)
     (members : List (Slot T)) → let join = join_of logic connective in
-    from_last join (from_last join (identity_of logic connective) (values_in kind.Leaf members))
-    (values_in kind.Function (map (without kind.Leaf) members)) ≡ joined logic connective members
+    from_last join (from_last join (identity_of logic connective) (values_in form.Leaf members))
+    (values_in form.Function (map (without form.Leaf) members)) ≡ joined logic connective members
 joined-twice logic connective members =
     rw (values-without members)
     (sym (from_last-append (join_of logic connective) (identity_of logic connective)
-    (values_in kind.Function members) (values_in kind.Leaf members)))
+    (values_in form.Function members) (values_in form.Leaf members)))
 
 -- One pass, from the last member back to the place: the value so far, and the members.
-abbrev pub Joins : {T : Type 0} → (T → T → T) → Kind → T → List (Slot T) → T → ℕ → List (Slot T)
+abbrev pub Joins : {T : Type 0} → (T → T → T) → Form → T → List (Slot T) → T → ℕ → List (Slot T)
     → Type 0
 Joins join wanted begin old value place members =
     (value ≡ from_last join begin (values_in wanted (drop place old)))
@@ -46,7 +46,7 @@ abbrev pub join_value : {T : Type 0} → (T → T → T) → T → Option T → 
 join_value join so_far None = so_far
 join_value join so_far (Some value) = join so_far value
 
-pub Joins-next : {T : Type 0} (join : T → T → T) (wanted : Kind) (begin : T)
+pub Joins-next : {T : Type 0} (join : T → T → T) (wanted : Form) (begin : T)
     (old members : List (Slot T)) (value next : T) (new_one otherwise : Slot T) (place : ℕ)
     → place < length old → Joins join wanted begin old value (place + 1) members
     → next ≡ join_value join value (value_in wanted (get_or members place otherwise))

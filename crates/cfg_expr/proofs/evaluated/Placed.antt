@@ -1,23 +1,27 @@
 -- Answers that are put at the places of a tree's predicates, in the order in which it asks, stand
 -- there as its nodes do.
-use Rattle.std.proofs.Common.{◌≡◌, ⊎_elim, ℕ, zero, suc, ◌+◌, ◌-◌, ◌<◌, List, [], ◌∷◌, length}
+use Rattle.std.proofs.Common.{◌≡◌, ⊎_elim, true, ℕ, zero, suc, ◌+◌, ◌-◌, ◌<◌, List, [], ◌∷◌, length}
 use Rattle.std.proofs.Common.{map, get_or, set, refl, sym, ap, ◌∙◌, arith}
 use Rattle.std.proofs.{lemmas.Bool.cases_eq, lemmas.Bool.cases_lt, lemmas.Grind.get_or-set_at}
-use Rattle.std.proofs.lemmas.List.{append-nil, ext_get_or, get_or-append_right, get_or-set_other}
+use Rattle.std.proofs.{Math.Dec.ltb, lemmas.Bool.{lt-ltb, ltb-true}}
+use Rattle.std.proofs.lemmas.Option.{slice_get_within}
+use Rattle.cfgx_grammar.{specs.Answer.HasOneTree, proofs.Answering.only_tree}
+use Rattle.std.proofs.lemmas.List.{ext_get_or, get_or-append_right, get_or-set_other}
 use Rattle.std.proofs.lemmas.List.{get_or_append_left, get_or_past, length-map, get_or-replicate}
 use Rattle.std.proofs.lemmas.List.{length-replicate, length-set, map-append}
 use Rattle.std.specs.List.{AllByRecursion}
 use Rattle.cfgx_grammar.specs.Tree.{Tree, Trees, is_function, is_leaf, asked}
-use Rattle.cfg_expr.specs.Fold.{Operations, answered}
+use Rattle.cfg_expr.specs.Fold.{answered}
 use Rattle.cfg_expr.proofs.SameShapes.{answered-shape}
 use Rattle.cfg_expr.proofs.Dealing.{asked-answered}
 use Rattle.cfgx_grammar.proofs.ListLemmas.{all_of_first, all_of_second}
-use Rattle.cfgx_parser.specs.nodes.Prefix.{Node, prefix, prefix_each, places, places_by}
+use Rattle.cfgx_parser.proofs.Places.{read-places}
+use Rattle.cfgx_parser.specs.nodes.Prefix.{Node, node_at, prefix, prefix_each, places, places_by}
 use Rattle.cfgx_parser.specs.{nodes.Shape.{shape, shape_of}, declared.nodes.ExprNode.ExprNode}
 use Rattle.cfgx_parser.proofs.Shapes.{length-shape, places-shape, shapes-shape}
-use Rattle.cfg_expr.specs.nodes.{AnswerSlots.{no_answers, with_answers}, Reading.{Slot, read}}
+use Rattle.cfg_expr.specs.nodes.{AnswerSlots.{no_answers, with_answers}, Reading.{HoldsAnswers, Slot, slot_of}}
 use Rattle.cfg_expr.specs.declared.expr.evaluating.Slot.TheVariants as slot
-use Rattle.cfg_expr.proofs.evaluated.{Nodes.read-mapped, Read.{slot_of, entry, read-tree}}
+use Rattle.cfg_expr.proofs.evaluated.Nodes.{read-mapped, shapes-kept}
 
 -- the place is none of these
 abbrev Misses : ℕ → List ℕ → Type 0
@@ -97,21 +101,61 @@ module _ {T : Type 0} where
       (length-replicate count slot.Empty ∙ sym (length-map (prefix tree) slot_of))
       (λ place misses. blank place ∙ sym (covered tree 0 place place (omega arith) misses))
 
--- answers to what a tree asks, put at its places and read, leave its value over them
-pub read-placed : {X T : Type 0} (logic : Operations T) (tree : Tree X) (answers : List T)
+-- the answers that are put at the places of the predicates are those of the answered tree
+holds-placed : {X T : Type 0} (otherwise : T) (tree : Tree X) (answers : List T)
     (nodes : List ExprNode) → map shape nodes ≡ map shape_of (prefix tree)
-    → length answers ≡ length (asked tree) → read logic (map shape nodes)
+    → length answers ≡ length (asked tree) → HoldsAnswers nodes
     (with_answers (no_answers (length nodes)) (places 0 tree) answers)
-    ≡ entry logic (answered logic.top tree answers) ∷ []
-read-placed {T = T} logic tree answers nodes shapes many =
-    let given = answered logic.top tree answers in
-    let same = answered-shape logic.top tree answers in
+    (answered otherwise tree answers)
+holds-placed otherwise tree answers nodes shapes many =
+    let given = answered otherwise tree answers in
+    let same = answered-shape otherwise tree answers in
     let count : length nodes ≡ length (prefix given) = sym (length-map nodes shape)
     ∙ ap length shapes ∙ length-map (prefix tree) shape_of ∙ length-shape tree given same in
-    let put : with_answers (no_answers (length nodes)) (places 0 tree) answers
-    ≡ slots (prefix given) = rw (count, places-shape tree given same)
-    (ap (with_answers _ (places 0 given)) (sym (asked-answered logic.top tree answers many))
-    ∙ placed given) in
-    let ends = rw (append-nil (map shape_of (prefix given)), append-nil (slots (prefix given)))
-    at (read-tree logic given [] []) in
-    rw (put, shapes, shapes-shape tree given same) ends
+    record {
+      shapes = shapes ∙ shapes-shape tree given same;
+      answers = rw (count, places-shape tree given same)
+          (ap (with_answers _ (places 0 given)) (sym (asked-answered otherwise tree answers many))
+          ∙ placed given);
+    }
+
+-- each place is that of a node
+inside-each : {Y : Type 0} (count : ℕ) (ps : List ℕ) (ys : List Y)
+    → map (λ place. ltb place count) ps ≡ map (λ _. true) ys
+    → AllByRecursion (λ place. place < count) ps
+inside-each count [] ys same = tt
+inside-each count (place ∷ ps) [] same = absurd (cc)
+inside-each count (place ∷ ps) (y ∷ ys) same =
+    (ltb-true place count (cc), inside-each count ps ys (cc))
+
+places-inside : {X : Type 0} (tree : Tree X)
+    → AllByRecursion (λ place. place < length (prefix tree)) (places 0 tree)
+places-inside tree =
+    let count = length (prefix tree) in
+    inside-each count (places 0 tree) (asked tree)
+    (read-places tree (λ place. ltb place count) (λ _. true)
+    (λ place x stands. lt-ltb place count (slice_get_within (prefix tree) place _ stands)))
+
+module _ {T : Type 0} {text : List ℕ} (nodes : List ExprNode) {ps : List ℕ} {blank : List (Slot T)}
+    (kept : (one : HasOneTree text) × (map (node_at text) nodes ≡ prefix one.tree))
+    (found : (one : HasOneTree text) × (ps ≡ places 0 one.tree))
+    (empty : blank ≡ no_answers (length nodes)) where
+  -- the places of a text's predicates are those of slots
+  pub text-inside : AllByRecursion (λ place. place < length blank) ps
+  text-inside =
+      let count : length (prefix found.0.tree) ≡ length blank =
+      sym (ap length empty ∙ length-replicate (length nodes) slot.Empty
+      ∙ sym (length-map nodes (node_at text)) ∙ ap length kept.1
+      ∙ ap (λ tree. length (prefix tree)) (only_tree found.0 kept.0.tree kept.0.reads.has)) in
+      rw (found.1, ← count) (places-inside found.0.tree)
+
+  -- the answers that are put at them are those of the answered tree
+  pub text-holds : (otherwise : T) (one : HasOneTree text) (answers : List T)
+      {slots : List (Slot T)} → length answers ≡ length (asked one.tree)
+      → slots ≡ with_answers blank ps answers
+      → HoldsAnswers nodes slots (answered otherwise one.tree answers)
+  text-holds otherwise one answers many put =
+      let places_are : ps ≡ places 0 one.tree =
+      found.1 ∙ ap (places 0) (only_tree one found.0.tree found.0.reads.has) in
+      rw (put, empty, places_are)
+      (holds-placed otherwise one.tree answers nodes (shapes-kept nodes kept one) many)

@@ -1,8 +1,7 @@
 -- Answers at the places of nodes, and how they come there: a closure is asked them.
-use Rattle.std.specs.Prelude.{◌≡◌, ◌++◌, ℕ, List, [], ◌∷◌, length, replicate, set}
+use Rattle.std.specs.Prelude.{◌≡◌, ◌<◌, ◌++◌, ℕ, List, [], ◌∷◌, length, replicate, set}
+use Rattle.std.specs.List.{AllByRecursion}
 use Rattle.cfgx_grammar.specs.Question.{Question}
-use Rattle.cfgx_grammar.specs.Tree.{Tree, asked}
-use Rattle.cfgx_parser.specs.nodes.Prefix.{places}
 use Rattle.cfg_expr.specs.Asking.{Asker, Calls}
 use Rattle.cfg_expr.specs.declared.expr.evaluating.Slot.{Slot}
 use Rattle.cfg_expr.specs.declared.expr.evaluating.Slot.TheVariants as slot
@@ -14,26 +13,19 @@ with_answers slots [] (answer ∷ answers) = slots
 with_answers slots (place ∷ places) (answer ∷ answers) =
     with_answers (set slots place (slot.Leaf answer)) places answers
 
-module _ {F T : Type 0} (asker : Asker F T) where
-  -- where the asking stands: some questions were asked, one call each, and what the answers to the
-  -- rest make of the slots, all answers make of the first ones
-  pub record Asking (start : F) (questions : List Question) (places : List ℕ)
-      (initial : List (Slot T)) (now : F) (rest : List Question) (left : List ℕ)
-      (slots : List (Slot T)) : Type 0 where
-    pub before : List Question
-    pub given : List T
-    pub calls : Calls asker start before given now
-    pub all : questions ≡ before ++ rest
-    pub as_many : length left ≡ length rest
-    pub puts : (more : List T)
-        → with_answers slots left more ≡ with_answers initial places (given ++ more)
-
-  -- all that a tree asks was asked, and the answers are put at the places of its predicates
-  pub record AnswersPut (tree : Tree Question) (start : F) (initial : List (Slot T)) (after : F)
-      (slots : List (Slot T)) : Type 0 where
-    pub answers : List T
-    pub calls : Calls asker start (asked tree) answers after
-    pub slots_are : slots ≡ with_answers initial (places 0 tree) answers
+-- where the asking stands: some questions were asked, one call each, and what the answers to the
+-- rest make of the slots, all answers make of the first ones
+pub record Asking {F T : Type 0} (asker : Asker F T) (start : F) (questions : List Question)
+    (places : List ℕ) (initial : List (Slot T)) (now : F) (rest : List Question) (left : List ℕ)
+    (slots : List (Slot T)) : Type 0 where
+  pub before : List Question
+  pub given : List T
+  pub calls : Calls asker start before given now
+  pub all : questions ≡ before ++ rest
+  pub as_many : length left ≡ length rest
+  pub inside : AllByRecursion (λ place. place < length slots) left
+  pub puts : (more : List T)
+      → with_answers slots left more ≡ with_answers initial places (given ++ more)
 
 -- no answer yet at any of this number of places
 abbrev pub no_answers : {T : Type 0} → ℕ → List (Slot T)

@@ -1,9 +1,11 @@
 //! Borrowed conditions, and a reader that reads one condition after another.
 ghost use Rattle.std.specs.List.{AllByRecursion};
-ghost use Rattle.std.specs.Prelude.{◌≡◌, ◌≤◌, length, map, IfOk, IsOk, OnErr, OnOk};
+ghost use Rattle.std.specs.Prelude.{◌≡◌, ◌≤◌, length, map, IfOk, IsOk, List, OnErr, OnOk};
+ghost use Rattle.std.specs.Iterator.{AlwaysYields, IsFinite};
 ghost use Rattle.cfgx_syntax.specs.Stripping.{strip};
 ghost use Rattle.cfg_expr.specs.Given.{AreAnswersTo};
 ghost use Rattle.cfgx_grammar.specs.Answer.{Answers, HasOneTree};
+ghost use Rattle.cfg_expr.specs.Fold.{tree_fold};
 ghost use Rattle.cfgx_parser.specs.nodes.Prefix.{node_at, prefix, places};
 ghost use Rattle.cfgx_parser.specs.nodes.ReadFrom.{AreRead, inner_node};
 ghost use Rattle.cfgx_parser.specs.nodes.WritesNodes.{NodeHasCut};
@@ -96,6 +98,30 @@ impl<'a> Condition<'a> {
         ensures { EvaluatesTo T.Logic EP.FnMut self.now ep.old ep.new result }
     {
         evaluating::eval(alloc, self, ep)
+    }
+
+    /// Evaluates the condition over the answers that `answers` gives, one for each predicate in the
+    /// order of `predicates`. Each answer is taken when its turn comes, and none is taken after the
+    /// last.
+    ///
+    /// # Errors
+    ///
+    /// `AllocError`: `alloc` refused memory, which happens only for a text of more than 32 bytes.
+    pub fn eval_over<T, I, A>(&self, alloc: A, answers: I) -> Result<T, AllocError>
+    where
+        T: Logic,
+        I: Iterator<Item = T> + Drop,
+        A: SmallAllocator,
+        requires can { I.can_next answers }
+        requires ends { IsFinite (I.remaining answers) }
+        requires given { (given : List T) × AlwaysYields I.next_gives (λ x. x) answers given
+            × AreAnswersTo given self.now }
+        ensures value { IfOk result (λ value. (given : List T)
+            → AlwaysYields I.next_gives (λ x. x) answers given → AreAnswersTo given self.now
+            → (one : HasOneTree self.now) × (value ≡ tree_fold T.Logic one.tree given)) }
+        ensures short { length self.now ≤ 32 → IsOk result }
+    {
+        evaluating::eval_over(alloc, self, answers)
     }
 
     /// Decides the condition as `Expression::decide` does, and replaces `decision`. New fillings

@@ -6,25 +6,24 @@
 //! overlap, since each node has one slot and pushes one entry. The nodes are in the order of the
 //! text. Predicates are asked in another order: for each function, first those below its member
 //! functions, and then its own members.
-ghost use Rattle.std.specs.Prelude.{◌≡◌, ◌<◌, ◌≤◌, ◌+◌, ◌∷◌, ℕ, List, IfOk, OnErr, IsOk};
-ghost use Rattle.std.specs.Prelude.{length, map, set, get_or, take, drop};
+ghost use Rattle.std.specs.Prelude.{◌≡◌, ◌<◌, ◌≤◌, ◌+◌, ◌∷◌, ℕ, List, Some, IfOk, IsSome, OnErr};
+ghost use Rattle.std.specs.Prelude.{IsOk, length, map, set, get_or, take, drop};
+ghost use Rattle.std.specs.Iterator.{AlwaysYields, IsFinite};
+ghost use Rattle.std.specs.List.{AllByRecursion};
 ghost use Rattle.cfgx_grammar.specs.Answer.{HasOneTree};
-ghost use Rattle.cfg_expr.specs.Fold.{from_last, literal_value, tree_fold};
+ghost use Rattle.cfg_expr.specs.Fold.{from_last, literal_value, tree_fold, tree_value};
 ghost use Rattle.cfg_expr.specs.Given.{AreAnswersTo};
 ghost use Rattle.cfg_expr.specs.Predicate.{question_of};
-ghost use Rattle.cfgx_grammar.specs.Question.{Question};
-ghost use Rattle.cfgx_grammar.specs.Tree.{Tree, asked};
-ghost use Rattle.cfgx_parser.specs.nodes.Prefix.{places, prefix};
-ghost use Rattle.cfgx_parser.specs.nodes.Shape.{shape, shape_of};
-ghost use Rattle.cfg_expr.specs.Asking.{Asks, MayAsk};
+ghost use Rattle.cfgx_grammar.specs.Tree.{Tree};
+ghost use Rattle.cfg_expr.specs.Asking.{Asks, Calls, MayAsk, MayAskEach};
 ghost use Rattle.cfg_expr.specs.Evaluation.{Evaluates, MayEvaluate};
-ghost use Rattle.cfg_expr.specs.nodes.AnswerSlots.{AnswersPut, no_answers, with_answers};
-ghost use Rattle.cfg_expr.specs.nodes.Reading.{entries, identity_of, join_of, joined, joined_list};
-ghost use Rattle.cfg_expr.specs.nodes.Reading.{put, top_value, value_in, value_or_top, values_in};
-ghost use Rattle.cfg_expr.specs.nodes.Reading.{without};
+ghost use Rattle.cfg_expr.specs.nodes.AnswerSlots.{no_answers, with_answers};
+ghost use Rattle.cfg_expr.specs.nodes.Reading.{HoldsAnswers, IsNext, entries, entry};
+ghost use Rattle.cfg_expr.specs.nodes.Reading.{identity_of, join_of, joined, slot_value};
+ghost use Rattle.cfg_expr.specs.nodes.Reading.{top_value, value_in, values_in, without};
 ghost use Rattle.cfg_expr.specs.declared.expr.evaluating.Slot.TheVariants as slot;
 
-use super::{Condition, Func, Predicate};
+use super::{Condition, Func, Predicate, Predicates};
 use crate::memory::SmallAllocator;
 use cfgx_parser::nodes::ExprNode;
 use cfgx_syntax::logic::Logic;
@@ -44,23 +43,23 @@ pub(crate) enum Slot<T> {
     Function(T),
 }
 
-/// The kind of a subtree.
+/// What a subtree is.
 #[derive(Clone, Copy)]
-pub(crate) enum Kind {
+pub(crate) enum Form {
     /// A predicate or a literal
     Leaf,
     Function,
 }
 
 impl<T: Logic> Slot<T> {
-    /// Takes the value out of the slot and returns it, if it is of the given `kind`.
-    fn take_if(&mut self, kind: Kind) -> Option<T>
-        ensures value { result ≡ value_in kind self.old }
-        ensures left { self.new ≡ without kind self.old }
+    /// Takes the value out of the slot and returns it, if it is of the given `form`.
+    fn take_if(&mut self, form: Form) -> Option<T>
+        ensures value { result ≡ value_in form self.old }
+        ensures left { self.new ≡ without form self.old }
     {
-        match (mem::replace(self, Slot::Empty), kind) {
-            (Slot::Leaf(value), Kind::Leaf) => Some(value),
-            (Slot::Function(value), Kind::Function) => Some(value),
+        match (mem::replace(self, Slot::Empty), form) {
+            (Slot::Leaf(value), Form::Leaf) => Some(value),
+            (Slot::Function(value), Form::Function) => Some(value),
             (other, _) => {
                 *self = other;
                 None
@@ -68,13 +67,14 @@ impl<T: Logic> Slot<T> {
         }
     }
 
-    /// Returns the value, or `top` if the slot is empty.
-    fn value_or_top(self) -> T
-        ensures { result ≡ value_or_top T.Logic self }
+    /// Returns the value in the slot.
+    fn into_value(self) -> T
+        requires { IsSome (slot_value self) }
+        ensures { slot_value self ≡ Some result }
     {
         match self {
             Slot::Leaf(value) | Slot::Function(value) => value,
-            Slot::Empty => T::top(),
+            Slot::Empty => unreachable!(),
         }
     }
 }
@@ -107,16 +107,16 @@ impl Connective {
         }
     }
 
-    /// Takes the members of the given `kind` out, and returns `value` joined with each of them,
+    /// Takes the members of the given `form` out, and returns `value` joined with each of them,
     /// from the last to the first. The members are in the order of the text.
-    fn join_kind<T: Logic>(self, kind: Kind, value: T, members: &mut [Slot<T>]) -> T
+    fn join_form<T: Logic>(self, form: Form, value: T, members: &mut [Slot<T>]) -> T
         ensures value { result
-            ≡ from_last (join_of T.Logic self) value (values_in kind members.old) }
-        ensures left { members.new ≡ map (without kind) members.old }
+            ≡ from_last (join_of T.Logic self) value (values_in form members.old) }
+        ensures left { members.new ≡ map (without form) members.old }
     {
         let mut value = value;
         for place in (0..members.len()).rev() {
-            if let Some(member) = members[place].take_if(kind) {
+            if let Some(member) = members[place].take_if(form) {
                 value = self.join(value, member);
             }
         }
@@ -129,8 +129,8 @@ impl Connective {
     fn join_all<T: Logic>(self, members: &mut [Slot<T>]) -> T
         ensures { result ≡ joined T.Logic self members.old }
     {
-        let leaves = self.join_kind(Kind::Leaf, self.identity(), members);
-        self.join_kind(Kind::Function, leaves, members)
+        let leaves = self.join_form(Form::Leaf, self.identity(), members);
+        self.join_form(Form::Function, leaves, members)
     }
 }
 
@@ -164,36 +164,35 @@ impl<T: Logic> Stack<'_, T> {
         self.slots[self.begin] = entry;
     }
 
-    /// Pops the top entry, and returns its value. Returns `T::top()` if the stack is empty, which
-    /// it never is for a condition.
+    /// Pops the top entry, and returns its value.
     fn pop(&mut self) -> T
-        requires { self.old.begin ≤ length self.old.slots.now }
-        ensures value { result ≡ top_value T.Logic (entries self.old) }
+        requires within { self.old.begin ≤ length self.old.slots.now }
+        requires value { IsSome (top_value (entries self.old)) }
+        ensures value { top_value (entries self.old) ≡ Some result }
         ensures entries { entries self.new ≡ drop 1 (entries self.old) }
         ensures front { (place : ℕ) → place ≤ self.old.begin
             → take place self.new.slots.now ≡ take place self.old.slots.now }
-        ensures within { (self.old.begin ≤ self.new.begin)
-            × (self.new.begin ≤ length self.new.slots.now) }
+        ensures begin { self.new.begin ≡ self.old.begin + 1 }
+        ensures len { length self.new.slots.now ≡ length self.old.slots.now }
     {
-        if self.begin == self.slots.len() {
-            return T::top();
-        }
         let entry = mem::replace(&mut self.slots[self.begin], Slot::Empty);
         self.begin += 1;
-        entry.value_or_top()
+        entry.into_value()
     }
 
-    /// Replaces the top `count` entries, or all if there are fewer, by their joined value.
+    /// Replaces the top `count` entries by their joined value.
     fn join(&mut self, connective: Connective, count: usize)
-        requires { (0 < self.old.begin) × (self.old.begin ≤ length self.old.slots.now) }
+        requires within { (0 < self.old.begin) × (self.old.begin ≤ length self.old.slots.now) }
+        requires many { count ≤ length (entries self.old) }
         ensures entries { entries self.new
-            ≡ joined_list T.Logic connective count (entries self.old) }
+            ≡ slot.Function (joined T.Logic connective (take count (entries self.old)))
+            ∷ drop count (entries self.old) }
         ensures front { (place : ℕ) → place < self.old.begin
             → take place self.new.slots.now ≡ take place self.old.slots.now }
-        ensures within { (self.old.begin ≤ self.new.begin + 1)
-            × (self.new.begin ≤ length self.new.slots.now) }
+        ensures begin { self.new.begin + 1 ≡ self.old.begin + count }
+        ensures len { length self.new.slots.now ≡ length self.old.slots.now }
     {
-        let end = self.begin + count.min(self.slots.len() - self.begin);
+        let end = self.begin + count;
         let value = connective.join_all(&mut self.slots[self.begin..end]);
         self.begin = end;
         self.push(Slot::Function(value));
@@ -201,10 +200,13 @@ impl<T: Logic> Stack<'_, T> {
 
     /// Reads `node`, whose slot is at `place`: pops its members, and pushes its value.
     fn read(&mut self, node: &ExprNode, place: usize)
-        requires { (place < self.old.begin) × (self.old.begin ≤ length self.old.slots.now) }
-        ensures entries { entries self.new
-            ≡ put T.Logic (shape node.now) (get_or self.old.slots.now place slot.Empty)
-            (entries self.old) }
+        requires within { (place < self.old.begin)
+            × (self.old.begin ≤ length self.old.slots.now) }
+        requires next { (tree : Tree T) × (rest : List (Slot T))
+            × IsNext T.Logic node.now place self.old tree rest }
+        ensures entries { (tree : Tree T) (rest : List (Slot T))
+            → IsNext T.Logic node.now place self.old tree rest
+            → entries self.new ≡ entry T.Logic tree ∷ rest }
         ensures front { take place self.new.slots.now ≡ take place self.old.slots.now }
         ensures within { (place ≤ self.new.begin)
             × (self.new.begin ≤ length self.new.slots.now) }
@@ -229,11 +231,9 @@ impl<T: Logic> Stack<'_, T> {
 
 /// Returns the value of the condition whose answers are in the slots.
 fn eval_nodes<T: Logic>(nodes: &[ExprNode], slots: &mut [Slot<T>]) -> T
-    requires { length slots.old ≡ length nodes.now }
-    ensures { (tree : Tree Question) (answers : List T)
-        → map shape nodes.now ≡ map shape_of (prefix tree) → length answers ≡ length (asked tree)
-        → slots.old ≡ with_answers (no_answers (length nodes.now)) (places 0 tree) answers
-        → result ≡ tree_fold T.Logic tree answers }
+    requires { (tree : Tree T) × HoldsAnswers nodes.now slots.old tree }
+    ensures { (tree : Tree T) → HoldsAnswers nodes.now slots.old tree
+        → result ≡ tree_value T.Logic tree }
 {
     let begin = slots.len();
     let mut stack = Stack { slots, begin };
@@ -259,13 +259,12 @@ fn empty_slots<T: Logic, A: Allocator>(
     Ok(slots)
 }
 
-/// Puts `answer` into the slot at `place`. Does nothing if there is no such slot.
+/// Puts `answer` into the slot at `place`.
 fn put_answer<T: Logic>(answer: T, place: usize, slots: &mut [Slot<T>])
+    requires { place < length slots.old }
     ensures { slots.new ≡ set slots.old place (slot.Leaf answer) }
 {
-    if place < slots.len() {
-        slots[place] = Slot::Leaf(answer);
-    }
+    slots[place] = Slot::Leaf(answer);
 }
 
 /// Returns what `ep` answers to `predicate`. The predicate is dropped here: if the loop of
@@ -279,33 +278,36 @@ where
     ep(&predicate)
 }
 
-/// Asks `ep` each predicate, in the order of `condition.predicates()`, and puts each answer into the
-/// slot of its node.
-fn ask_each<EP, T>(condition: &Condition<'_>, slots: &mut [Slot<T>], ep: &mut EP)
+/// Asks `ep` each of the predicates, and puts each answer into the slot at the place beside it.
+fn ask_each<EP, T>(places: &[usize], predicates: Predicates<'_>, slots: &mut [Slot<T>], ep: &mut EP)
 where
     EP: FnMut(&Predicate<'_>) -> T,
     T: Logic,
-    requires { MayEvaluate EP.FnMut condition.now ep.old }
-    ensures { (one : HasOneTree condition.now)
-        × AnswersPut EP.FnMut one.tree ep.old slots.old ep.new slots.new }
+    requires inside { AllByRecursion (λ place. place < length slots.old) places.now }
+    requires many { length places.now ≡ length predicates }
+    requires may { MayAskEach EP.FnMut ep.old predicates }
+    ensures { (answers : List T) × Calls EP.FnMut ep.old predicates.entry answers ep.new
+        × (slots.new ≡ with_answers slots.old places.now answers) }
 {
-    let mut places = condition.places().iter();
-    for predicate in condition.predicates() {
-        let answer = ask(predicate, ep);
-        // There are as many places as predicates.
-        let Some(place) = places.next() else {
-            unreachable!()
-        };
-        put_answer(answer, *place, slots);
+    for (place, predicate) in places.iter().zip(predicates) {
+        put_answer(ask(predicate, ep), *place, slots);
     }
 }
 
-/// Puts the `answers` into the slots at `places`.
-fn put_each<T: Logic + Copy>(places: &[usize], answers: &[T], slots: &mut [Slot<T>])
-    ensures { slots.new ≡ with_answers slots.old places.now answers.now }
+/// Puts the `answers` into the slots at `places`, as long as both last.
+fn put_each<T: Logic, I: Iterator<Item = T> + Drop>(
+    places: &[usize],
+    answers: I,
+    slots: &mut [Slot<T>],
+)
+    requires inside { AllByRecursion (λ place. place < length slots.old) places.now }
+    requires can { I.can_next answers }
+    requires ends { IsFinite (I.remaining answers) }
+    ensures { (given : List T) → AlwaysYields I.next_gives (λ x. x) answers given
+        → slots.new ≡ with_answers slots.old places.now given }
 {
     for (place, answer) in places.iter().zip(answers) {
-        put_answer(*answer, *place, slots);
+        put_answer(answer, *place, slots);
     }
 }
 
@@ -330,14 +332,41 @@ where
     let nodes = condition.nodes();
     let mut slots = empty_slots(&alloc, nodes.len())?;
     let slots = slots.as_mut_slice();
-    ask_each(condition, slots, ep);
+    ask_each(condition.places(), condition.predicates(), slots, ep);
     Ok(eval_nodes(nodes, slots))
 }
 
-/// Returns the value of the condition over `answers`, one for each predicate, in the order in
-/// which the predicates are asked.
+/// Returns the value of the condition over the answers that `answers` gives, one for each
+/// predicate, in the order in which the predicates are asked.
 ///
 /// Returns an error if `alloc` refuses memory for the slots.
+pub(crate) fn eval_over<T, I, A>(
+    alloc: A,
+    condition: &Condition<'_>,
+    answers: I,
+) -> Result<T, AllocError>
+where
+    T: Logic,
+    I: Iterator<Item = T> + Drop,
+    A: SmallAllocator,
+    requires can { I.can_next answers }
+    requires ends { IsFinite (I.remaining answers) }
+    requires given { (given : List T) × AlwaysYields I.next_gives (λ x. x) answers given
+        × AreAnswersTo given condition.now }
+    ensures one { HasOneTree condition.now }
+    ensures value { IfOk result (λ value. (given : List T)
+        → AlwaysYields I.next_gives (λ x. x) answers given → AreAnswersTo given condition.now
+        → (one : HasOneTree condition.now) × (value ≡ tree_fold T.Logic one.tree given)) }
+    ensures short { length condition.now ≤ 32 → IsOk result }
+{
+    let nodes = condition.nodes();
+    let mut slots = empty_slots(&alloc, nodes.len())?;
+    let slots = slots.as_mut_slice();
+    put_each(condition.places(), answers, slots);
+    Ok(eval_nodes(nodes, slots))
+}
+
+/// Returns the value of the condition over `answers`, as `eval_over` does.
 pub(crate) fn eval_over_answers<T, A>(
     alloc: A,
     condition: &Condition<'_>,
@@ -352,9 +381,5 @@ where
         × (value ≡ tree_fold T.Logic one.tree answers.now)) }
     ensures short { length condition.now ≤ 32 → IsOk result }
 {
-    let nodes = condition.nodes();
-    let mut slots = empty_slots(&alloc, nodes.len())?;
-    let slots = slots.as_mut_slice();
-    put_each(condition.places(), answers, slots);
-    Ok(eval_nodes(nodes, slots))
+    eval_over(alloc, condition, answers.iter().copied())
 }

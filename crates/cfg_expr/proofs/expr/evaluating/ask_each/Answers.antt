@@ -1,51 +1,38 @@
 -- One call more.
-use Rattle.std.proofs.Common.{◌≡◌, ◌∙◌, [], length, ap, arith, refl, subst, sym}
-use Rattle.cfgx_grammar.{specs.Tree.asked, proofs.Answering.only_tree}
-use Rattle.cfgx_parser.{specs.nodes.Prefix.places, proofs.Places.length-places}
-use Rattle.cfg_expr.specs.Asking.{Calls, MayAskEach}
-use Rattle.cfg_expr.proofs.evaluated.Asked.{Asking-may, Asking-next, Asking-over}
+use Rattle.std.proofs.Common.{[], refl, arith, ⊎_elim}
+use Rattle.std.proofs.lemmas.List.{nil_from_length}
+use Rattle.cfg_expr.specs.Asking.{Calls}
+use Rattle.cfg_expr.proofs.evaluated.Asked.{Asking-inside, Asking-may, Asking-next, Asking-over}
 use Rattle.cfg_expr.proofs.expr.evaluating.ask_each.Goals as goal
 
-pub loop-predicate-init : goal.loop-predicate-init
-loop-predicate-init g c =
-    let asks = c.predicates-predicate-items.ensures.asked in
-    let found = c.places.ensures in
-    let one : found.0.tree ≡ asks.0.tree = only_tree asks.0 found.0.tree found.0.reads.has in
-    record {
+pub loop-place-init : goal.loop-place-init
+loop-place-init g c =
+    let whole = c.into_iter-place-iterator.ensures.into_iter_gives in
+    let parts = c.zip-place-items.ensures in
+    rw (whole, parts.first, parts.second, c.iter.ensures.rest) record {
       before = [];
       given = [];
       calls = Calls.none _;
       all = refl;
-      as_many = ap length (c.iter-places.ensures.rest ∙ found.1) ∙ length-places found.0.tree
-          ∙ ap (λ tree. length (asked tree)) one
-          ∙ sym (ap length (c.into_iter-predicate-iterator.ensures.into_iter_gives ∙ asks.1));
+      as_many = c.requires.many;
+      inside = c.requires.inside;
       puts = λ more. refl;
     }
 
-pub ask-answer-requires : goal.ask-answer-requires
-ask-answer-requires g c =
-    let asks = c.predicates-predicate-items.ensures.asked in
-    let all = c.into_iter-predicate-iterator.ensures.into_iter_gives ∙ asks.1 in
-    Asking-may c.loop-predicate.invariant c.in-Some.ensures.steps
-    (subst (MayAskEach g.EP.FnMut c.args.ep.now) (sym all)
-    (c.requires asks.0.tree asks.0.reads.has))
+pub ask-requires : goal.ask-requires
+ask-requires g c = Asking-may c.loop-place.invariant c.in-Some.ensures.steps.1 c.requires.may
 
-pub loop-predicate-preserved : goal.loop-predicate-preserved
-loop-predicate-preserved g c =
-    Asking-next c.loop-predicate.invariant c.in-Some.ensures.steps c.ask-answer.ensures
-    c.in-Some-next.ensures.steps c.put_answer.ensures
+pub put_answer-requires : goal.put_answer-requires
+put_answer-requires g c = Asking-inside c.loop-place.invariant c.in-Some.ensures.steps.0
 
-pub unreachable-requires : goal.unreachable-requires
-unreachable-requires g c =
-    let left = c.loop-predicate.invariant.as_many in
-    omega (arith, left, ap length c.in-Some.ensures.steps, c.in_default.ensures.steps.0)
+pub loop-place-preserved : goal.loop-place-preserved
+loop-place-preserved g c =
+    Asking-next c.loop-place.invariant c.in-Some.ensures.steps.1 c.ask.ensures
+    c.in-Some.ensures.steps.0 c.put_answer.ensures
 
 pub returns : goal.returns
 returns g c =
-    let asks = c.predicates-predicate-items.ensures.asked in
-    let found = c.places.ensures in
-    let over = Asking-over c.loop-predicate.invariant asks.0.tree
-    (c.into_iter-predicate-iterator.ensures.into_iter_gives ∙ asks.1)
-    (c.iter-places.ensures.rest ∙ found.1
-    ∙ ap (places 0) (only_tree asks.0 found.0.tree found.0.reads.has)) c.in-None.ensures.steps.0 in
-    (asks.0, over)
+    let asking = c.loop-place.invariant in
+    Asking-over asking (⊎_elim
+    (λ places. nil_from_length _ (omega (arith, asking.as_many, places.1.0)))
+    (λ rest. rest.1.0) c.in-None.ensures.steps)

@@ -1,8 +1,8 @@
 -- The members are in front of what is left of the slots.
 use Rattle.std.proofs.Common.{◌≡◌, ◌+◌, ◌-◌, ◌++◌, ◌∷◌, ◌∙◌, ℕ, List, append_assoc, ap}
 use Rattle.std.proofs.lemmas.List.{length-drop, length-take}
-use Rattle.std.proofs.Common.{arith, drop, take, drop_at, length, length-append, min, sym}
-use Rattle.cfg_expr.specs.nodes.Reading.{entries}
+use Rattle.std.proofs.Common.{arith, drop, take, drop_at, length, length-append, sym}
+use Rattle.cfg_expr.specs.nodes.Reading.{entries, joined}
 use Rattle.cfg_expr.specs.declared.expr.evaluating.Slot.TheVariants as slot
 use Rattle.cfg_expr.proofs.expr.evaluating.Stack.join.Goals as goal
 
@@ -20,14 +20,16 @@ returns-clause-entries g c =
     let joins = c.join_all-value in
     let stacked = length-drop begin slots in
     let front : length (take begin slots) ≡ begin =
-    omega (arith, c.requires, length-take begin slots) in
-    let taken = length-take (begin + c.min.result - begin) (drop begin slots) in
-    let part : length joins.new.members ≡ c.min.result =
-    omega (arith, c.min.ensures, joins.auto.members, stacked, taken) in
-    let present : begin + c.min.result - begin ≡ min c.args.count (length (entries stack)) =
-    omega (arith, c.min.ensures, stacked) in
-    c.push.ensures.entries ∙ rw (sym present, sym joins.ensures)
-    (ap (λ l. slot.Function joins.result ∷ l)
+    omega (arith, c.requires.within, length-take begin slots) in
+    let taken = length-take (begin + c.args.count - begin) (drop begin slots) in
+    let part : length joins.new.members ≡ c.args.count =
+    omega (arith, c.requires.many, joins.auto.members, stacked, taken) in
+    let many : begin + c.args.count - begin ≡ c.args.count = omega arith in
+    let joined_at = λ (n : ℕ). slot.Function (joined g.T.Logic c.args.connective
+    (take n (entries stack))) ∷ drop n (entries stack) in
+    c.push.ensures.entries
+    ∙ ap (λ l. slot.Function joins.result ∷ l)
     (part-dropped (take begin slots) joins.new.members
-    (drop (begin + c.min.result - begin) (drop begin slots)) (begin + c.min.result)
-    (omega (arith, front, part))))
+    (drop (begin + c.args.count - begin) (drop begin slots)) (begin + c.args.count)
+    (omega (arith, front, part)))
+    ∙ rw joins.ensures (ap joined_at many)

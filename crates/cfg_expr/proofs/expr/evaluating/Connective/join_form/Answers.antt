@@ -1,7 +1,7 @@
 -- Each member is one step of the pass.
 use Rattle.std.proofs.{Common.{◌≡◌, ◌+◌, ◌-◌, ◌∙◌, ap, sym, arith}, lemmas.Grind.common_steps}
 use Rattle.cfg_expr.{specs.nodes.Reading.join_of, proofs.evaluated.Joined.{Joins-next, join_value}}
-use Rattle.cfg_expr.proofs.expr.evaluating.Connective.join_kind.Goals as goal
+use Rattle.cfg_expr.proofs.expr.evaluating.Connective.join_form.Goals as goal
 
 pub loop-place-preserved-in-Some : goal.loop-place-preserved-in-Some
 loop-place-preserved-in-Some g c =
