@@ -22,6 +22,7 @@ use cfg_expr::memory::SmallAllocator;
 use cfg_expr::{Decision, Expression, Predicate};
 pub use facts::{Facts, FactsError, Otherwise};
 use std::alloc::{AllocError, Global};
+use std::fmt;
 
 /// A section of a manifest, which counts if its condition is true.
 #[derive_where(Debug)]
@@ -116,64 +117,82 @@ fn ask_each<A: SmallAllocator, M: TargetMatcher>(
     Ok(())
 }
 
-/// Replaces `answers` by the answers of `matcher` to the predicates of the condition, and
-/// `decision` by what they decide. The memory of both is reused.
-///
-/// Returns an error if `alloc` refuses memory. `decision` then keeps what it holds.
-pub(crate) fn decide_into<A: SmallAllocator, M: TargetMatcher>(
+/// Decides one condition after another on targets, in the same memory.
+#[derive(Drop)]
+pub struct Decider<A: SmallAllocator = Global> {
     alloc: A,
-    condition: &Condition<'_>,
-    matcher: &M,
-    answers: &mut Vec<Option<bool>, A>,
-    decision: &mut Decision<A>,
-) -> Result<(), AllocError>
-    ensures decision { OnOk result ((one : HasOneTree condition.now)
-        × DecidesExactly one.tree
-        (map (answer_by (M.answer matcher.now)) (asked one.tree)) decision.new) }
-    ensures answers { OnOk result ((one : HasOneTree condition.now)
-        × (answers.new.items ≡ map (answer_by (M.answer matcher.now)) (asked one.tree))) }
-    ensures refused { OnErr result (held decision.new ≡ held decision.old) }
-{
-    ask_each(matcher, condition.predicates(), answers)?;
-    condition.decide(alloc, answers.as_slice(), decision)
+    /// What the target answered to each predicate of the last condition, in order
+    pub answers: Vec<Option<bool>, A>,
+    /// What these answers decide
+    pub decision: Decision<A>,
 }
 
-/// Asks `matcher` the predicates of a condition, and returns what `Expression::decide` returns for
-/// these answers. The matcher is asked once for each predicate on the target. Every other predicate
-/// is unknown.
-///
-/// The answers replace the contents of `answers`, one for each predicate in order. So one vector
-/// serves for many conditions.
-///
-/// # Errors
-///
-/// `AllocError`: `alloc` refused memory. `answers` is then empty.
-pub fn decide_on<A: SmallAllocator, M: TargetMatcher>(
-    alloc: A,
-    condition: &Expression<A>,
-    matcher: &M,
-    answers: &mut Vec<Option<bool>, A>,
-) -> Result<Decision<A>, AllocError>
-    ensures decision { IfOk result (λ decision. (one : HasOneTree condition.now)
-        × DecidesExactly one.tree
-        (map (answer_by (M.answer matcher.now)) (asked one.tree)) decision) }
-    ensures answers { OnOk result ((one : HasOneTree condition.now)
-        × (answers.new.items ≡ map (answer_by (M.answer matcher.now)) (asked one.tree))) }
-    ensures failed { OnErr result (answers.new.items ≡ []) }
-{
-    let mut decision = Decision::default();
-    match decide_into(
-        alloc,
-        &condition.condition(),
-        matcher,
-        answers,
-        &mut decision,
-    ) {
-        Ok(()) => Ok(decision),
-        Err(error) => {
-            answers.clear();
-            Err(error)
+impl<A: SmallAllocator> Decider<A> {
+    /// Makes a decider without answers, whose decision is the default one. Takes no memory.
+    pub fn new(alloc: A) -> Self
+        ensures { result.answers.items ≡ [] }
+    {
+        Decider {
+            alloc,
+            answers: Vec::new(alloc),
+            decision: Decision::default(),
         }
+    }
+
+    /// Asks `matcher` the predicates of a condition, and decides the condition over its answers as
+    /// `Expression::decide` does. The matcher is asked once for each predicate on the target, in
+    /// order. Every other predicate is unknown.
+    ///
+    /// `answers` and `decision` are replaced. Their memory is reused.
+    ///
+    /// # Errors
+    ///
+    /// `AllocError`: the allocator refused memory. `answers` is then empty, and `decision` keeps
+    /// the value or the fillings that it holds.
+    pub fn decide<M: TargetMatcher>(
+        &mut self,
+        condition: &Condition<'_>,
+        matcher: &M,
+    ) -> Result<(), AllocError>
+        ensures decision { OnOk result ((one : HasOneTree condition.now)
+            × DecidesExactly one.tree
+            (map (answer_by (M.answer matcher.now)) (asked one.tree)) self.new.decision) }
+        ensures answers { OnOk result ((one : HasOneTree condition.now)
+            × (self.new.answers.items
+            ≡ map (answer_by (M.answer matcher.now)) (asked one.tree))) }
+        ensures refused { OnErr result ((self.new.answers.items ≡ [])
+            × (held self.new.decision ≡ held self.old.decision)) }
+    {
+        let decided = self.ask_and_decide(condition, matcher);
+        if decided.is_err() {
+            self.answers.clear();
+        }
+        decided
+    }
+
+    /// Does what `decide` does, but may leave some answers if memory is refused.
+    fn ask_and_decide<M: TargetMatcher>(
+        &mut self,
+        condition: &Condition<'_>,
+        matcher: &M,
+    ) -> Result<(), AllocError>
+        ensures decision { OnOk result ((one : HasOneTree condition.now)
+            × DecidesExactly one.tree
+            (map (answer_by (M.answer matcher.now)) (asked one.tree)) self.new.decision) }
+        ensures answers { OnOk result ((one : HasOneTree condition.now)
+            × (self.new.answers.items
+            ≡ map (answer_by (M.answer matcher.now)) (asked one.tree))) }
+        ensures refused { OnErr result (held self.new.decision ≡ held self.old.decision) }
+    {
+        ask_each(matcher, condition.predicates(), &mut self.answers)?;
+        condition.decide(self.alloc, self.answers.as_slice(), &mut self.decision)
+    }
+}
+
+/// Writes the name alone.
+impl<A: SmallAllocator> fmt::Debug for Decider<A> {
+    fn fmt<W: fmt::Write>(&self, f: &mut fmt::Formatter<W>) -> fmt::Result {
+        f.debug_struct("Decider").finish_non_exhaustive()
     }
 }
 

@@ -1,4 +1,4 @@
-//! How often `audit`, `decide_on` and `pick` ask a target: once for each occurrence of a predicate
+//! How often `audit`, a `Decider` and `pick` ask a target: once for each occurrence of a predicate
 //! on the target, whatever the target answers. `cfgx_long` has rows of long conditions.
 
 /// Rows for `asks_target` of `cfgx_testing`.

@@ -1,4 +1,4 @@
-//! How often `audit`, `decide_on` and `pick` ask a target, in long conditions.
+//! How often `audit`, a `Decider` and `pick` ask a target, in long conditions.
 
 /// Rows for `asks_target` of `cfgx_testing`.
 pub(crate) const ASKED: &str = r#"

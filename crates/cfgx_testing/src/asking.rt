@@ -1,4 +1,4 @@
-//! How often `audit`, `decide_on` and `pick` ask a target: once for each occurrence of a predicate
+//! How often `audit`, a `Decider` and `pick` ask a target: once for each occurrence of a predicate
 //! on the target, whatever the target answers.
 use crate::checking::is_ok_true;
 use crate::targets::bare;
@@ -6,7 +6,7 @@ use cfg_expr::error::Failure;
 use cfg_expr::expr::TargetMatcher;
 use cfg_expr::targets::{Os, TargetInfo};
 use cfg_expr::{Decision, Expression, TargetPredicate};
-use cfgx_engine::resolve::{Section, Verdict, audit, decide_on, pick};
+use cfgx_engine::resolve::{Decider, Section, Verdict, audit, pick};
 use std::alloc::{AllocError, Global};
 use std::cell::Cell;
 
@@ -131,8 +131,8 @@ fn verdict_of(decision: &Decision) -> Verdict {
     }
 }
 
-// Returns whether `decide_on` asks the target as often as `wanted` says, its decision has the
-// verdict of `wanted`, and it leaves one answer for each predicate in `answers`.
+// Returns whether a `Decider` asks the target as often as `wanted` says, its decision has the
+// verdict of `wanted`, and it has one answer for each predicate.
 fn decision_is_right<M: TargetMatcher>(
     alloc: Global,
     condition: &Expression,
@@ -140,12 +140,12 @@ fn decision_is_right<M: TargetMatcher>(
     wanted: Wanted,
 ) -> Result<bool, AllocError> {
     let target = Counting::new(target);
-    let mut answers = Vec::new(alloc);
-    let decision = decide_on(alloc, condition, &target, &mut answers)?;
+    let mut decider = Decider::new(alloc);
+    decider.decide(&condition.condition(), &target)?;
     Ok(
-        verdict_of(&decision) == wanted.verdict
+        verdict_of(&decider.decision) == wanted.verdict
             && target.asked.get() == wanted.count
-            && answers.len() == condition.predicates().left(),
+            && decider.answers.len() == condition.predicates().left(),
     )
 }
 
@@ -173,7 +173,7 @@ fn verdict_named(name: &str) -> Option<Verdict> {
     }
 }
 
-// Returns whether `audit`, `decide_on` and `pick` ask `target` as often as `wanted` says, and find
+// Returns whether `audit`, a `Decider` and `pick` ask `target` as often as `wanted` says, and find
 // the verdict of `wanted`.
 fn each_call_asks<M: TargetMatcher>(
     alloc: Global,
@@ -188,7 +188,7 @@ fn each_call_asks<M: TargetMatcher>(
     Ok(audit_is_right && decision_is_right && pick_is_right)
 }
 
-// Returns whether `audit`, `decide_on` and `pick` ask the target with the name `name` as often as
+// Returns whether `audit`, a `Decider` and `pick` ask the target with the name `name` as often as
 // `wanted` says, and find the verdict of `wanted`.
 fn each_call_asks_named(alloc: Global, name: &str, text: &str, wanted: Wanted) -> bool {
     match name {
@@ -211,7 +211,7 @@ fn wanted_of(targets: &str, verdict: &str, count: &str) -> Option<Wanted> {
     })
 }
 
-/// Returns whether `audit`, `decide_on` and `pick` ask the target of the row as often as the row
+/// Returns whether `audit`, a `Decider` and `pick` ask the target of the row as often as the row
 /// says, and find the verdict of the row.
 ///
 /// A row has the number of targets of an audit, a target, a condition, the verdict, and how often

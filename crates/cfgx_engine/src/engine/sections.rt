@@ -14,7 +14,7 @@ ghost use Rattle.cfgx_engine.specs.Sections.{PrintsLine, PrintsLines, digits, fi
 ghost use Rattle.cfgx_engine.specs.Sections.{is_tab, line_fault, line_of, lines_of};
 
 use super::output::Output;
-use crate::resolve::decide_into;
+use crate::resolve::Decider;
 use cfg_expr::Decision;
 use cfg_expr::error::Failure;
 use cfg_expr::expr::{Condition, ConditionReader};
@@ -50,15 +50,6 @@ enum Line<'a> {
     Section { name: &'a str, condition: &'a str },
 }
 
-/// Buffers that are reused from line to line.
-#[derive(Drop)]
-struct Buffers<A: Allocator> {
-    /// What the target answers to each predicate of the condition
-    answers: Vec<Option<bool>, A>,
-    /// What these answers decide
-    decision: Decision<A>,
-}
-
 /// Returns the output for `text`: the verdict of the target `row` on each section. If a line is
 /// faulty, the output is the message of the first such line alone.
 pub(super) fn sections_output<A: SmallAllocator>(
@@ -71,11 +62,8 @@ pub(super) fn sections_output<A: SmallAllocator>(
         PrintsLines (answer_on row.now) (map line_of (lines_of text.now)) (output_view output)) }
 {
     let mut reader = ConditionReader::new(alloc);
-    let mut buffers = Buffers {
-        answers: Vec::new(alloc),
-        decision: Decision::default(),
-    };
-    match print_lines(alloc, row, text, &mut reader, &mut buffers) {
+    let mut decider = Decider::new(alloc);
+    match print_lines(alloc, row, text, &mut reader, &mut decider) {
         Ok(printed) => Ok(Output::done(printed)),
         Err(LineError::Faulty(message)) => Ok(Output::faulty(message)),
         Err(LineError::Memory(error)) => Err(error),
@@ -88,7 +76,7 @@ fn print_lines<'a, A: SmallAllocator>(
     row: &TargetInfo<'_, A>,
     text: &'a str,
     reader: &mut ConditionReader<'a, A>,
-    buffers: &mut Buffers<A>,
+    decider: &mut Decider<A>,
 ) -> Result<Vec<u8, A>, LineError<A>>
     requires { length text.now ≤ input_limit }
     ensures ok { IfOk result (λ printed. PrintsLines (answer_on row.now)
@@ -101,7 +89,7 @@ fn print_lines<'a, A: SmallAllocator>(
     for line in text.split('\n') {
         number += 1;
         let line = split_line(without_return(line));
-        push_line(alloc, row, number, line, reader, buffers, &mut printed)?;
+        push_line(alloc, row, number, line, reader, decider, &mut printed)?;
     }
     Ok(printed)
 }
@@ -154,7 +142,7 @@ fn push_line<'a, A: SmallAllocator>(
     number: usize,
     line: Line<'a>,
     reader: &mut ConditionReader<'a, A>,
-    buffers: &mut Buffers<A>,
+    decider: &mut Decider<A>,
     printed: &mut Vec<u8, A>,
 ) -> Result<(), LineError<A>>
     ensures ok { OnOk result (AddsLine (answer_on row.now) number (line_view line.entry)
@@ -170,7 +158,7 @@ fn push_line<'a, A: SmallAllocator>(
         }
         Line::Section { name, condition } => match reader.read(condition) {
             Ok(condition) => {
-                push_section(alloc, row, name, &condition, buffers, printed)?;
+                push_section(row, name, &condition, decider, printed)?;
                 Ok(())
             }
             Err(failure) => {
@@ -199,20 +187,18 @@ fn fault_message<A: Allocator>(
 
 /// Pushes the name of a section and the verdict of the target on its condition.
 fn push_section<A: SmallAllocator>(
-    alloc: A,
     row: &TargetInfo<'_, A>,
     name: &str,
     condition: &Condition<'_>,
-    buffers: &mut Buffers<A>,
+    decider: &mut Decider<A>,
     printed: &mut Vec<u8, A>,
 ) -> Result<(), AllocError>
     ensures { OnOk result (AddsVerdict row.now condition.now (printed.old.items ++ name.now)
         printed.new.items) }
 {
-    let Buffers { answers, decision } = buffers;
-    decide_into(alloc, condition, row, answers, decision)?;
+    decider.decide(condition, row)?;
     printed.extend_from_slice(name.as_bytes())?;
-    push_decision(decision, printed)
+    push_decision(&decider.decision, printed)
 }
 
 /// Pushes `decision` as a verdict. If the value is unknown, also pushes the two fillings.

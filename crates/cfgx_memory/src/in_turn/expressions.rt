@@ -2,7 +2,7 @@
 //!
 //! All predicates get the same answer, and the value has to be that answer.
 use super::texts::is_same_condition;
-use super::verdicts::{check_audit, check_decide_on, check_pick};
+use super::verdicts::{check_audit, check_decider, check_pick};
 use super::{AllocResult, Outcome};
 use cfg_expr::expr::logic::Kleene64;
 use cfg_expr::expr::{Condition, StepsError, eval_steps};
@@ -29,7 +29,7 @@ pub(crate) fn check_expression_call<A: SmallAllocator>(
         "polar_fillings" => check_polar_fillings(alloc, expression),
         "decide" => check_decide(alloc, expression),
         "steps" => check_steps(alloc, expression),
-        "decide_on" => check_decide_on(alloc, expression),
+        "Decider::decide" => check_decider(alloc, expression),
         "audit" => check_audit(alloc, expression),
         "pick" => check_pick(alloc, expression.original()),
         call => check_condition_call(alloc, call, &expression.condition()),
@@ -165,9 +165,9 @@ fn check_condition_polar_fillings<A: SmallAllocator>(
     }
 }
 
-// Returns whether the decision over `count` unknown answers is unknown, with the fillings all true
-// and all false.
-fn is_polar<A: SmallAllocator>(decision: &Decision<A>, count: usize) -> bool {
+/// Returns whether the decision over `count` unknown answers is unknown, with the fillings all true
+/// and all false.
+pub(super) fn is_polar<A: SmallAllocator>(decision: &Decision<A>, count: usize) -> bool {
     match decision {
         Decision::Unknown { if_true, if_false } => {
             are_polar(if_true.as_slice(), if_false.as_slice(), count)
@@ -176,8 +176,8 @@ fn is_polar<A: SmallAllocator>(decision: &Decision<A>, count: usize) -> bool {
     }
 }
 
-/// Checks a decision over `count` unknown answers.
-pub(super) fn check_decision<A: SmallAllocator>(
+// Checks a decision over `count` unknown answers.
+fn check_decision<A: SmallAllocator>(
     decision: &AllocResult<Decision<A>>,
     count: usize,
 ) -> Outcome {

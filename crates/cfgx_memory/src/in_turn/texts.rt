@@ -184,7 +184,7 @@ fn equals_copy(global: Global, text: &str, expected: &Parsed) -> bool {
 // The calls on an `evaluated` text.
 const CALLS: &str = "parse from_str try_clone eval decide polar_fillings eval_lanes steps \
     Condition::eval Condition::decide Condition::polar_fillings Condition::eval_lanes \
-    decide_on audit pick";
+    Decider::decide audit pick";
 
 // Returns the number of growths that `parse` takes for `text`, or `None` if a check fails.
 fn parse_growths(global: Global, text: &str, expected: &Parsed) -> Option<u64> {

@@ -1,10 +1,10 @@
-//! The verdicts of `decide_on`, `audit` and `pick` on targets that meet no predicate.
-use super::expressions::check_decision;
+//! The verdicts of a `Decider`, `audit` and `pick` on targets that meet no predicate.
+use super::expressions::is_polar;
 use super::{AllocResult, Outcome, combine};
 use cfg_expr::expr::TargetMatcher;
 use cfg_expr::memory::SmallAllocator;
 use cfg_expr::{Expression, TargetPredicate};
-use cfgx_engine::resolve::{Section, Verdict, audit, decide_on, pick};
+use cfgx_engine::resolve::{Decider, Section, Verdict, audit, pick};
 use std::alloc::{AllocError, Global};
 
 /// A target that meets no predicate.
@@ -21,11 +21,15 @@ impl TargetMatcher for Nowhere {
     }
 }
 
-/// Checks the decision on a target. The expression has no predicate on targets.
-pub(super) fn check_decide_on<A: SmallAllocator>(alloc: A, expression: &Expression<A>) -> Outcome {
-    let mut answers = Vec::new(alloc);
-    let decision = decide_on(alloc, expression, &Nowhere, &mut answers);
-    check_decision(&decision, answers.len())
+/// Checks the decision on a target. The expression has no predicate on targets. Out of memory no
+/// answer is left.
+pub(super) fn check_decider<A: SmallAllocator>(alloc: A, expression: &Expression<A>) -> Outcome {
+    let mut decider = Decider::new(alloc);
+    match decider.decide(&expression.condition(), &Nowhere) {
+        Ok(()) => Ok(is_polar(&decider.decision, decider.answers.len())),
+        Err(_) if decider.answers.is_empty() => Err(AllocError),
+        Err(_) => Ok(false),
+    }
 }
 
 // Checks that `items` equal `wanted`.

@@ -6,10 +6,10 @@ use Rattle.cfgx_engine.proofs.engine.sections.push_section.Goals as goal
 
 pub returns : goal.returns
 returns g c =
-    let decided = c.in_ok-decide_into.ensures.decision in
+    let decided = c.in_ok-decide.ensures.decision in
     let tree = decided.0.tree in
     let answers = map (answer_on {A = g.row.A.Denot} c.args.row.now) (asked tree) in
-    let is = verdict_lines-decision {A = g.row.A.Denot} tree answers c.decide_into.new.decision
+    let is = verdict_lines-decision {A = g.row.A.Denot} tree answers c.decide.new.self.decision
     decided.1.is in
     let name_is = c.as_bytes.ensures.value in
     on_ok_weaker c.push_decision.result (λ added.

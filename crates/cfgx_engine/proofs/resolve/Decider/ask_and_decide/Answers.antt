@@ -1,7 +1,7 @@
 -- The predicates that were asked are those of the one tree.
 use Rattle.std.proofs.lemmas.Result.{on_ok_weaker}
 use Rattle.cfgx_grammar.proofs.Answering.{only_tree}
-use Rattle.cfgx_engine.proofs.resolve.decide_into.Goals as goal
+use Rattle.cfgx_engine.proofs.resolve.Decider.ask_and_decide.Goals as goal
 
 pub returns-clause-decision : goal.returns-clause-decision
 returns-clause-decision g c =
