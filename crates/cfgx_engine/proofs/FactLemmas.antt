@@ -16,14 +16,22 @@ use Rattle.cfgx_syntax.specs.Error.{failure_of}
 use Rattle.cfgx_syntax.specs.declared.error.Failure.{Failure}
 use Rattle.cfgx_syntax.specs.declared.error.Failure.TheVariants as failure
 use Rattle.cfgx_grammar.specs.{Question.Question, Tree.Tree, Answer.HasOneTree, Answer.ReadsAs}
-use Rattle.cfgx_grammar.proofs.Answering.{not_both}
+use Rattle.cfgx_grammar.proofs.Answering.{not_both, only_tree}
 use Rattle.cfgx_engine.specs.Facts.{AreFacts, FactTexts, IsAnswer, IsFirstFaulty, IsFlag, IsNamed}
 use Rattle.cfgx_engine.specs.Facts.{NameAlike, Names, ReadsFacts, fact_text, texts_of}
 use Rattle.cfgx_engine.specs.Facts.{true_text, unknown_text}
 use Rattle.cfgx_engine.specs.declared.resolve.facts.Otherwise.{Otherwise}
-use Rattle.cfgx_engine.specs.declared.resolve.facts.Unaskable.{Unaskable}
-use Rattle.cfgx_engine.specs.declared.resolve.facts.Unaskable.TheVariants as unaskable
-use Rattle.cfgx_engine.specs.internal.ReadsFacts.{AddsFact, PushesText, accepts, error_at, joined}
+use Rattle.cfgx_engine.specs.declared.resolve.facts.OnUnaskable.{OnUnaskable}
+use Rattle.cfgx_engine.specs.declared.resolve.facts.OnUnaskable.TheVariants as unaskable
+use Rattle.cfgx_engine.specs.internal.ReadsFacts.{AddsFact, AddsText, IsText, accepts, error_at}
+use Rattle.cfgx_engine.specs.internal.ReadsFacts.{joined}
+use Rattle.cfgx_engine.specs.internal.Names.{AreNames, Code, IsName, code_of, facts_in}
+use Rattle.cfgx_engine.specs.internal.Names.{spelled}
+use Rattle.cfgx_engine.proofs.NameLemmas.{AreNames-append, Contains-codes, IsNamed-spelled}
+use Rattle.cfgx_engine.proofs.NameLemmas.{only_item}
+use Rattle.std.specs.List.{Contains}
+use Rattle.std.specs.List.Sorted.{IsPermutation}
+use Rattle.std.proofs.lemmas.List.Sorted.{All-permutation, Contains-permutation, IsPermutation-sym}
 use Rattle.cfgx_engine.specs.internal.{ReadsFacts.NamesNothing, ReadsFacts.passes_over, Shows.Fails}
 use Rattle.cfgx_engine.specs.{Request.texts, Readings.GivesAll, Readings.ParsesAs}
 use Rattle.cfgx_engine.proofs.ReadingLemmas.{first_fails, later_fails}
@@ -80,66 +88,100 @@ texts_of-more facts fact old new alike more = record {
       question (alike.unknown_alike question) (more.unknown_alike question));
 }
 
--- The texts of a fact that is added.
+-- The codes of what a fact names, behind those of other facts.
 
 -- the same text behind texts names what it names
-IsNamed-one : (text : List ℕ) (question : Question) → IsNamed (text ∷ []) question
-    → Names text question
-IsNamed-one text question (zero, other, below, is, names) = rw is names
-IsNamed-one text question (suc k, other, below, is, names) = absurd (omega arith)
-
--- texts with the text of a fact, or without it if it is passed over
-IsNamed-pushed : (passed : Unaskable) (text : List ℕ) (old new : List (List ℕ))
-    → PushesText passed text old new → (question : Question)
-    → IsNamed new question ↔ IsNamed (old ++ strip text ∷ []) question
-IsNamed-pushed passed text old new (inl (one, is)) question =
-    rw is (λ named. named, λ named. named)
-IsNamed-pushed passed text old new (inr (passes, nothing, is)) question =
-    let both = IsNamed-append old (strip text ∷ []) question in (
-      λ named. both.1 (inl (rw is at named)),
-      λ named. rw is (⊎_elim (λ left. left)
-          (λ right. absurd (nothing question (IsNamed-one (strip text) question right)))
-          (both.0 named)),
-    )
+IsNamed-one : (text : List ℕ) (question : Question)
+    → IsNamed (text ∷ []) question ↔ Names text question
+IsNamed-one text question = (
+  λ (k, other, below, is, names).
+      let among : Contains (text ∷ []) other = (k, below, is) in
+      rw (only_item text other among) names,
+  λ names. (zero, text, omega arith, refl, names),
+)
 
 IsNamed-same : (texts : List (List ℕ)) (question : Question)
     → IsNamed texts question ↔ IsNamed (texts ++ []) question
 IsNamed-same texts question = rw append-nil (λ named. named, λ named. named)
 
+-- the codes of a text tell what it names
+Names-codes : (passed : OnUnaskable) (text : List ℕ) (added : List Code) → IsText passed text added
+    → (question : Question) → Names text question ↔ Contains added (code_of question)
+Names-codes passed text added (inl (questions, asks, is)) question =
+    let codes = Contains-codes questions question in
+    rw is (
+      λ (tree, has, among). codes.1 (rw (only_tree asks.asked.0 tree has, ← asks.asked.1) at among),
+      λ among. (asks.asked.0.tree, asks.asked.0.reads.has, rw (← asks.asked.1) (codes.0 among)),
+    )
+Names-codes passed text added (inr (passes, nothing, is)) question = (
+  λ names. absurd (nothing question names),
+  λ (k, below, _). absurd (grind (arith, is)),
+)
+
+-- a text was added to texts, or passed over
+pub record Pushes (passed : OnUnaskable) (text : List ℕ) (old new : List (List ℕ)) : Type 0 where
+  pub taken : HasOneTree (strip text) ⊎ passes_over passed (strip text)
+  pub alike : (question : Question)
+      → IsNamed new question ↔ IsNamed (old ++ strip text ∷ []) question
+
+module _ (passed : OnUnaskable) (text : List ℕ) (old new : List Code) (named : AreNames old)
+    (adds : AddsText passed text old new) where
+  pub AreNames-added : AreNames new
+  AreNames-added = rw adds.2 (⊎_elim
+      (λ (questions, asks, is). rw is (AreNames-append old questions named asks.well_formed))
+      (λ (passes, nothing, is). rw (is, append-nil) named) adds.1)
+
+  taken_text : IsText passed (strip text) adds.0 → HasOneTree (strip text) ⊎ passes_over passed (strip text)
+  taken_text (inl (questions, asks, is)) = inl asks.asked.0
+  taken_text (inr (passes, nothing, is)) = inr passes
+
+  pub Pushes-added : Pushes passed text (spelled old) (spelled new)
+  Pushes-added = record {
+    taken = taken_text adds.1;
+    alike = λ question.
+        let before = IsNamed-spelled old question named in
+        let after = IsNamed-spelled new question AreNames-added in
+        let both = IsNamed-append (spelled old) (strip text ∷ []) question in
+        let one = IsNamed-one (strip text) question in
+        let codes = Names-codes passed (strip text) adds.0 adds.1 question in (
+          λ names. both.1 (⊎_elim (λ left. inl (before.1 left))
+              (λ right. inr (one.1 (codes.1 right)))
+              (Contains-append_cases old adds.0 _ (rw adds.2 at (after.0 names)))),
+          λ names. after.1 (rw adds.2 (⊎_elim
+              (λ left. Contains-append_left old adds.0 _ (before.0 left))
+              (λ right. Contains-append_right old adds.0 _ (codes.0 (one.0 right)))
+              (both.0 names))),
+        );
+  }
+
 -- a fact is accepted if its text has one tree or is passed over
-accepts-text : (passed : Unaskable) (fact text : List ℕ) → fact_text fact ≡ text
+accepts-text : (passed : OnUnaskable) (fact text : List ℕ) → fact_text fact ≡ text
     → HasOneTree (strip text) ⊎ passes_over passed (strip text) → accepts passed fact
-accepts-text unaskable.Faulty fact text is one =
+accepts-text unaskable.Refuse fact text is one =
     ⊎_elim (λ tree. rw is tree) (λ none. absurd none) one
-accepts-text unaskable.PassedOver fact text is one = rw is one
+accepts-text unaskable.PassOver fact text is one = rw is one
 
-pushes-one : (passed : Unaskable) (text : List ℕ) (old new : List (List ℕ))
-    → PushesText passed text old new
-    → HasOneTree (strip text) ⊎ passes_over passed (strip text)
-pushes-one passed text old new (inl (one, is)) = inl one
-pushes-one passed text old new (inr (passes, nothing, is)) = inr passes
-
-pub AddsFact-unknown : (passed : Unaskable) (fact text : List ℕ) (old : FactTexts)
+pub AddsFact-unknown : (passed : OnUnaskable) (fact text : List ℕ) (old : FactTexts)
     (new : List (List ℕ)) → unknown_text fact ≡ Some text
-    → PushesText passed text old.of_unknown new
+    → Pushes passed text old.of_unknown new
     → AddsFact (accepts passed) fact old (record { of_true = old.of_true; of_unknown = new })
 AddsFact-unknown passed fact text old new marked pushes = record {
-  accepted = accepts-text passed fact text (rw marked refl) (pushes-one passed text _ new pushes);
+  accepted = accepts-text passed fact text (rw marked refl) pushes.taken;
   alike = record {
     true_alike = λ question. rw marked (IsNamed-same old.of_true question);
     unknown_alike = λ question.
-        rw marked (IsNamed-pushed passed text old.of_unknown new pushes question);
+        rw marked (pushes.alike question);
   };
 }
 
-pub AddsFact-true : (passed : Unaskable) (fact : List ℕ) (old : FactTexts) (new : List (List ℕ))
-    → unknown_text fact ≡ None → PushesText passed fact old.of_true new
+pub AddsFact-true : (passed : OnUnaskable) (fact : List ℕ) (old : FactTexts)
+    (new : List (List ℕ)) → unknown_text fact ≡ None → Pushes passed fact old.of_true new
     → AddsFact (accepts passed) fact old (record { of_true = new; of_unknown = old.of_unknown })
 AddsFact-true passed fact old new unmarked pushes = record {
-  accepted = accepts-text passed fact fact (rw unmarked refl) (pushes-one passed fact _ new pushes);
+  accepted = accepts-text passed fact fact (rw unmarked refl) pushes.taken;
   alike = record {
     true_alike = λ question.
-        rw unmarked (IsNamed-pushed passed fact old.of_true new pushes question);
+        rw unmarked (pushes.alike question);
     unknown_alike = λ question. rw unmarked (IsNamed-same old.of_unknown question);
   };
 }
@@ -155,20 +197,51 @@ pub true_and_false : (b : Bool) → b ≡ true → b ≡ false → ⊥
 true_and_false b is not = absurd cc
 
 -- a fact is not accepted if its text has a fault and is not passed over
-refuses : (passed : Unaskable) (fact : List ℕ) (fault : TextFault)
+refuses : (passed : OnUnaskable) (fact : List ℕ) (fault : TextFault)
     → ParsesAs (fact_text fact) (Err fault) → ¬ passes_over passed (strip (fact_text fact))
     → ¬ accepts passed fact
-refuses unaskable.Faulty fact fault parses fails = λ one. not_both parses.1 one
-refuses unaskable.PassedOver fact fault parses fails = λ one.
+refuses unaskable.Refuse fact fault parses fails = λ one. not_both parses.1 one
+refuses unaskable.PassOver fact fault parses fails = λ one.
     ⊎_elim (λ tree. not_both parses.1 tree) fails one
 
-pub Fails-refused : {A : Type 0} (passed : Unaskable) (fact text : List ℕ) (failed : Failure A)
+pub Fails-refused : {A : Type 0} (passed : OnUnaskable) (fact text : List ℕ) (failed : Failure A)
     → fact_text fact ≡ text
     → Fails {A = A} (λ fault. ParsesAs text (Err fault) × ¬ passes_over passed (strip text)) failed
     → Fails {A = A} (λ fault. ParsesAs (fact_text fact) (Err fault) × ¬ accepts passed fact) failed
 Fails-refused {A} passed fact text failed is fails = IfSome_then (failure_of {A = A} failed) fails
     (λ fault both. let parses = rw (← is) at both.0 in
     (parses, refuses passed fact fault parses (rw (← is) at both.1)))
+
+-- sorted codes name what they did
+pub IsNamed-sorted : (old new : List Code) → AreNames old → IsPermutation old new
+    → (question : Question) → IsNamed (spelled new) question ↔ IsNamed (spelled old) question
+IsNamed-sorted old new named moves question =
+    let before = IsNamed-spelled old question named in
+    let after = IsNamed-spelled new question (All-permutation IsName old new moves named) in (
+      λ is. before.1 (Contains-permutation new old _ (IsPermutation-sym old new moves)
+          (after.0 is)),
+      λ is. after.1 (Contains-permutation old new _ moves (before.0 is)),
+    )
+
+pub AreFacts-sorted : (Accepts : List ℕ → Type 0) (facts : List (List ℕ))
+    (of_true of_unknown new_true new_unknown : List Code) → AreNames of_true → AreNames of_unknown
+    → IsPermutation of_true new_true → IsPermutation of_unknown new_unknown
+    → AreFacts Accepts facts (facts_in of_true of_unknown)
+    → AreFacts Accepts facts (facts_in new_true new_unknown)
+AreFacts-sorted Accepts facts of_true of_unknown new_true new_unknown named named' moves moves' are =
+    record {
+      each = are.each;
+      alike = record {
+        true_alike = λ question.
+            let same = IsNamed-sorted of_true new_true named moves question in
+            let alike = are.alike.true_alike question in
+            (λ is. alike.0 (same.0 is), λ is. same.1 (alike.1 is));
+        unknown_alike = λ question.
+            let same = IsNamed-sorted of_unknown new_unknown named' moves' question in
+            let alike = are.alike.unknown_alike question in
+            (λ is. alike.0 (same.0 is), λ is. same.1 (alike.1 is));
+      };
+    }
 
 -- what texts answer, others that name the same answer too
 pub IsAnswer-alike : (one other : FactTexts) (otherwise : Otherwise) (question : Question)
@@ -216,13 +289,12 @@ module _ (Accepts : List ℕ → Type 0) (words : List (Bor (List ℕ))) (i : �
   ReadsFacts-fails (failure.Memory error) before fails = tt
 
 -- no facts
-pub AreFacts-none : (Accepts : List ℕ → Type 0) (read : FactTexts) → read.of_true ≡ []
-    → read.of_unknown ≡ [] → AreFacts Accepts [] read
-AreFacts-none Accepts read none_true none_unknown = record {
+pub AreFacts-none : (Accepts : List ℕ → Type 0) → AreFacts Accepts [] (facts_in [] [])
+AreFacts-none Accepts = record {
   each = tt;
   alike = record {
-    true_alike = λ question. rw none_true (λ named. named, λ named. named);
-    unknown_alike = λ question. rw none_unknown (λ named. named, λ named. named);
+    true_alike = λ question. (λ named. named, λ named. named);
+    unknown_alike = λ question. (λ named. named, λ named. named);
   };
 }
 

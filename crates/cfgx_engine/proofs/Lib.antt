@@ -1,8 +1,8 @@
 pub mod AuditLemmas
 pub mod FactLemmas
 pub mod KeyLemmas
-pub mod KindLemmas
 pub mod LaneAnswers
+pub mod NameLemmas
 pub mod OneOutput
 pub mod OutputLemmas
 pub mod PickLemmas

@@ -2,7 +2,7 @@
 pub mod AddsLine
 pub mod InLanes
 pub mod KeysAndValues
-pub mod Kinds
+pub mod Names
 pub mod ReadsFacts
 pub mod ReadsMore
 pub mod Shows

@@ -14,6 +14,7 @@ ghost use Rattle.cfgx_engine.specs.Verdicts.{answer_by, IsVerdict, verdict_eq};
 mod auditing;
 mod by_facts;
 mod facts;
+mod names;
 
 use auditing::{ByMatching, push_values};
 pub use by_facts::{AuditError, audit_facts};

@@ -4,19 +4,19 @@ ghost use Rattle.std.specs.Cmp.Rules.{comparing};
 ghost use Rattle.std.proofs.Common.{rules};
 ghost use Rattle.cfgx_syntax.specs.Lexer.{item_of};
 ghost use Rattle.cfgx_syntax.specs.Stripping.{strip};
-ghost use Rattle.cfgx_parser.specs.Kinds.{kind_of};
 ghost use Rattle.cfg_expr.specs.Predicate.{question_of};
-ghost use Rattle.cfgx_engine.specs.Facts.{IsAnswer, IsFlag, IsNamed, IsRustcFact, Names};
-ghost use Rattle.cfgx_engine.specs.Facts.{ReadsFacts, fact_text, otherwise_eq, unnamed_answer};
+ghost use Rattle.cfgx_engine.specs.Facts.{IsAnswer, IsFlag, IsRustcFact, ReadsFacts};
+ghost use Rattle.cfgx_engine.specs.Facts.{fact_text, otherwise_eq, unnamed_answer};
 ghost use Rattle.cfgx_engine.specs.internal.KeysAndValues.{AreLast, IsKey, IsKeyAt, TakesNext};
-ghost use Rattle.cfgx_engine.specs.internal.KeysAndValues as token;
-ghost use Rattle.cfgx_engine.specs.internal.Kinds.{LacksKind, TellsKind};
-ghost use Rattle.cfgx_engine.specs.internal.ReadsFacts.{AddsFact, PushesText, ReadsText, accepts};
+ghost use Rattle.cfgx_engine.specs.internal.KeysAndValues.{kind_of};
+ghost use Rattle.cfgx_engine.specs.internal.Names.{AreNames, facts_in};
+ghost use Rattle.cfgx_engine.specs.internal.ReadsFacts.{AddsFact, AddsText, accepts};
 ghost use Rattle.cfgx_engine.specs.internal.ReadsFacts.{error_at, passes_over};
 ghost use Rattle.cfgx_engine.specs.internal.Shows.{Fails};
 ghost use Rattle.cfgx_engine.specs.Readings.{ParsesAs};
 ghost use Rattle.cfgx_engine.specs.Request.{texts};
 
+use super::names::Names;
 use cfg_expr::error::{Failure, ParseError};
 use cfg_expr::expr::lexer::{Lexer, LexerToken, Token};
 use cfg_expr::memory::SmallAllocator;
@@ -93,103 +93,13 @@ impl<A: Allocator> From<FactsError<A>> for Failure<A> {
     }
 }
 
-/// What a text is that no condition can ask.
+/// What is done with a text that no condition can ask.
 #[derive(Clone, Copy)]
-enum Unaskable {
-    /// Faulty, as every other text that is no condition
-    Faulty,
-    /// Passed over
-    PassedOver,
-}
-
-/// A parsed fact, which names the predicates of its text. Contracts see the text.
-#[derive_where(Debug)]
-struct Fact<A: SmallAllocator> {
-    condition: Expression<A>,
-    /// The kind of its predicate, or `None` if it has none or several
-    kind: Option<Kind>,
-}
-
-// A derived `Drop` drops the fields for any `A: Allocator`, and an `Expression` may be dropped only
-// if its allocator is a `SmallAllocator`. `Facts` can derive it, as its vectors drop facts by this
-// impl.
-impl<A: SmallAllocator> Drop for Fact<A> {
-    fn drop(self) {
-        let Fact {
-            condition: _condition,
-            kind: _,
-        } = self;
-    }
-}
-
-impl<A: SmallAllocator> Model for Fact<A> {
-    ghost use Rattle.std.specs.Prelude.{List, ℕ};
-    ghost use Rattle.cfgx_engine.specs.internal.Kinds.{TellsKind};
-
-    ghost Value = { List ℕ };
-
-    ghost view = { λ fact. fact.condition };
-
-    ghost invariant = { λ fact. TellsKind fact.condition fact.kind };
-}
-
-impl<A: SmallAllocator> Fact<A> {
-    /// Parses the text of a fact. Returns `None` if it is passed over.
-    fn parse(alloc: A, text: &str, unaskable: Unaskable) -> Result<Option<Fact<A>>, Failure<A>>
-        ensures { ReadsText unaskable text.now result }
-    {
-        match Expression::parse(alloc, text) {
-            Ok(condition) => {
-                let kind = only_kind(&condition);
-                Ok(Some(Fact { condition, kind }))
-            }
-            Err(Failure::Parse(error)) => match unaskable {
-                Unaskable::Faulty => Err(Failure::Parse(error)),
-                Unaskable::PassedOver => {
-                    if is_key_at(alloc, text, error.span.start)? {
-                        Ok(None)
-                    } else {
-                        Err(Failure::Parse(error))
-                    }
-                }
-            },
-            Err(failure) => Err(failure),
-        }
-    }
-
-    /// Whether this fact may name a predicate of this kind. A fact with one predicate names none of
-    /// another kind.
-    #[inline(always)]
-    fn may_name(&self, kind: Kind) -> bool
-        ensures { result ≡ false → LacksKind self.now kind }
-    {
-        match self.kind {
-            Some(own) => own == kind,
-            None => true,
-        }
-    }
-
-    /// Whether this fact names `predicate`, whose kind is `kind`. Most facts have another kind, and
-    /// their predicates are not compared.
-    #[inline(always)]
-    fn names(&self, predicate: &Predicate<'_>, kind: Kind) -> bool
-        requires { kind ≡ kind_of (question_of predicate.now) }
-        ensures { IsTrue result ↔ Names self.now (question_of predicate.now) }
-    {
-        self.may_name(kind) && self.has(predicate)
-    }
-
-    /// Whether one of the predicates of this fact is `predicate`.
-    fn has(&self, predicate: &Predicate<'_>) -> bool
-        ensures { IsTrue result ↔ Names self.now (question_of predicate.now) }
-    {
-        for named in self.condition.predicates() {
-            if is_same(named, predicate) {
-                return true;
-            }
-        }
-        false
-    }
+enum OnUnaskable {
+    /// It is refused, as every other text that is no condition
+    Refuse,
+    /// It is passed over
+    PassOver,
 }
 
 /// What is known of a target: which predicates are true, and which are unknown. Contracts see the
@@ -201,21 +111,19 @@ impl<A: SmallAllocator> Fact<A> {
 #[derive(Drop)]
 #[derive_where(Debug)]
 pub struct Facts<A: SmallAllocator = Global> {
-    /// The facts that name true predicates
-    true_facts: Vec<Fact<A>, A>,
-    /// The facts that name unknown predicates
-    unknown_facts: Vec<Fact<A>, A>,
+    of_true: Names<A>,
+    of_unknown: Names<A>,
 }
 
 impl<A: SmallAllocator> Model for Facts<A> {
     ghost use Rattle.cfgx_engine.specs.Facts.{FactTexts};
+    ghost use Rattle.cfgx_engine.specs.internal.Names.{AreFound, facts_in};
 
     ghost Value = { FactTexts };
 
-    ghost view = { λ facts. record {
-      of_true = facts.true_facts.items;
-      of_unknown = facts.unknown_facts.items;
-    } };
+    ghost view = { λ facts. facts_in facts.of_true facts.of_unknown };
+
+    ghost invariant = { λ facts. AreFound facts.of_true × AreFound facts.of_unknown };
 }
 
 impl<A: SmallAllocator> Facts<A> {
@@ -228,7 +136,7 @@ impl<A: SmallAllocator> Facts<A> {
     pub fn from_flags(alloc: A, flags: &[&str]) -> Result<Facts<A>, FactsError<A>>
         ensures { ReadsFacts IsFlag (texts flags.now) result }
     {
-        Facts::read(alloc, flags, Unaskable::Faulty)
+        Facts::read(alloc, flags, OnUnaskable::Refuse)
     }
 
     /// Reads facts, such as the lines of `rustc --print cfg`. A fact that no condition can ask is
@@ -243,35 +151,27 @@ impl<A: SmallAllocator> Facts<A> {
     pub fn from_rustc(alloc: A, lines: &[&str]) -> Result<Facts<A>, FactsError<A>>
         ensures { ReadsFacts IsRustcFact (texts lines.now) result }
     {
-        Facts::read(alloc, lines, Unaskable::PassedOver)
+        Facts::read(alloc, lines, OnUnaskable::PassOver)
     }
 
     /// Reads each of `words` as a fact, in order.
-    fn read(alloc: A, words: &[&str], unaskable: Unaskable) -> Result<Facts<A>, FactsError<A>>
-        ensures { ReadsFacts (accepts unaskable) (texts words.now) result }
+    fn read(alloc: A, words: &[&str], on_unaskable: OnUnaskable) -> Result<Facts<A>, FactsError<A>>
+        ensures { ReadsFacts (accepts on_unaskable) (texts words.now) result }
     {
-        let mut facts = Facts {
-            true_facts: Vec::new(alloc),
-            unknown_facts: Vec::new(alloc),
-        };
+        let mut of_true = Names::new(alloc);
+        let mut of_unknown = Names::new(alloc);
         for (index, word) in words.iter().enumerate() {
-            if let Err(failure) = facts.add(alloc, word, unaskable) {
+            let added = add_fact(alloc, &mut of_true, &mut of_unknown, word, on_unaskable);
+            if let Err(failure) = added {
                 return Err(FactsError::at(index, failure));
             }
         }
-        Ok(facts)
-    }
-
-    /// Reads a fact and adds it, if it is not passed over.
-    fn add(&mut self, alloc: A, word: &str, unaskable: Unaskable) -> Result<(), Failure<A>>
-        ensures ok { OnOk result (AddsFact (accepts unaskable) word.now self.old self.new) }
-        ensures err { IfErr result (Fails (λ fault. ParsesAs (fact_text word.now) (Err fault)
-            × ¬ accepts unaskable word.now)) }
-    {
-        match word.strip_prefix('?') {
-            Some(text) => push_fact(alloc, &mut self.unknown_facts, text, unaskable),
-            None => push_fact(alloc, &mut self.true_facts, word, unaskable),
-        }
+        of_true.sort();
+        of_unknown.sort();
+        Ok(Facts {
+            of_true,
+            of_unknown,
+        })
     }
 
     /// Returns the answer of the facts to `predicate`: true if a fact names it as true, otherwise
@@ -279,9 +179,9 @@ impl<A: SmallAllocator> Facts<A> {
     pub fn answer(&self, predicate: &Predicate<'_>, otherwise: Otherwise) -> Option<bool>
         ensures { IsAnswer self.now otherwise (question_of predicate.now) result }
     {
-        if is_named(self.true_facts.as_slice(), predicate) {
+        if self.of_true.has(predicate) {
             Some(true)
-        } else if is_named(self.unknown_facts.as_slice(), predicate) {
+        } else if self.of_unknown.has(predicate) {
             None
         } else {
             unnamed_answer(predicate, otherwise)
@@ -289,21 +189,52 @@ impl<A: SmallAllocator> Facts<A> {
     }
 }
 
-/// Parses the text of a fact and pushes the fact, if it is not passed over.
-fn push_fact<A: SmallAllocator>(
+/// Reads a fact and adds what it names, if it is not passed over.
+fn add_fact<A: SmallAllocator>(
     alloc: A,
-    facts: &mut Vec<Fact<A>, A>,
-    text: &str,
-    unaskable: Unaskable,
+    of_true: &mut Names<A>,
+    of_unknown: &mut Names<A>,
+    word: &str,
+    on_unaskable: OnUnaskable,
 ) -> Result<(), Failure<A>>
-    ensures ok { OnOk result (PushesText unaskable text.now facts.old.items facts.new.items) }
-    ensures err { IfErr result (Fails (λ fault. ParsesAs text.now (Err fault)
-        × ¬ passes_over unaskable (strip text.now))) }
+    requires { AreNames of_true.old × AreNames of_unknown.old }
+    ensures named { OnOk result (AreNames of_true.new × AreNames of_unknown.new) }
+    ensures ok { OnOk result (AddsFact (accepts on_unaskable) word.now
+        (facts_in of_true.old of_unknown.old) (facts_in of_true.new of_unknown.new)) }
+    ensures err { IfErr result (Fails (λ fault. ParsesAs (fact_text word.now) (Err fault)
+        × ¬ accepts on_unaskable word.now)) }
 {
-    if let Some(fact) = Fact::parse(alloc, text, unaskable)? {
-        facts.push(fact)?;
+    match word.strip_prefix('?') {
+        Some(text) => add_text(alloc, of_unknown, text, on_unaskable),
+        None => add_text(alloc, of_true, word, on_unaskable),
     }
-    Ok(())
+}
+
+/// Reads the text of a fact and adds what it names, if it is not passed over.
+fn add_text<A: SmallAllocator>(
+    alloc: A,
+    names: &mut Names<A>,
+    text: &str,
+    on_unaskable: OnUnaskable,
+) -> Result<(), Failure<A>>
+    ensures ok { OnOk result (AddsText on_unaskable text.now names.old names.new) }
+    ensures err { IfErr result (Fails (λ fault. ParsesAs text.now (Err fault)
+        × ¬ passes_over on_unaskable (strip text.now))) }
+{
+    match Expression::parse(alloc, text) {
+        Ok(condition) => Ok(names.add(condition.predicates())?),
+        Err(Failure::Parse(error)) => match on_unaskable {
+            OnUnaskable::Refuse => Err(Failure::Parse(error)),
+            OnUnaskable::PassOver => {
+                if is_key_at(alloc, text, error.span.start)? {
+                    Ok(())
+                } else {
+                    Err(Failure::Parse(error))
+                }
+            }
+        },
+        Err(failure) => Err(failure),
+    }
 }
 
 /// What a lexer yields next, as far as it matters to `is_key_at`.
@@ -323,7 +254,7 @@ enum Next {
 
 /// Returns what `found` is.
 fn kind_of(found: &LexerToken<'_>) -> Next
-    ensures { result ≡ token.kind_of (item_of found.now) }
+    ensures { result ≡ kind_of (item_of found.now) }
 {
     match found.token {
         Token::Key(_) => Next::Key(found.span.start),
@@ -378,40 +309,6 @@ fn are_last(second: Next, third: Next, fourth: Next) -> bool
         Next::Equals => third == Next::Value && fourth == Next::End,
         Next::Key(_) | Next::Value | Next::Other => false,
     }
-}
-
-/// Whether `named` and `asked` are the same predicate. `named` is dropped here: if the loop of
-/// `Fact::has` dropped it, the proof of the loop would have a case for each kind of predicate.
-fn is_same(named: Predicate<'_>, asked: &Predicate<'_>) -> bool
-    ensures { IsTrue result ↔ (question_of named.entry ≡ question_of asked.now) }
-{
-    named == *asked
-}
-
-/// Returns the kind of the predicate of a condition, or `None` if it has none or several.
-fn only_kind<A: SmallAllocator>(condition: &Expression<A>) -> Option<Kind>
-    ensures { TellsKind condition.now result }
-{
-    let mut predicates = condition.predicates();
-    if predicates.left() != 1 {
-        return None;
-    }
-    let only = predicates.next()?;
-    Some(only.kind())
-}
-
-/// Whether one of `facts` names `predicate`.
-#[inline(always)]
-fn is_named<A: SmallAllocator>(facts: &[Fact<A>], predicate: &Predicate<'_>) -> bool
-    ensures { IsTrue result ↔ IsNamed facts.now (question_of predicate.now) }
-{
-    let kind = predicate.kind();
-    for fact in facts {
-        if fact.names(predicate, kind) {
-            return true;
-        }
-    }
-    false
 }
 
 /// Returns the answer to a predicate that no fact names.

@@ -1,30 +1,29 @@
 use Rattle.std.proofs.Common.{inl, inr, refl}
 use Rattle.cfgx_engine.proofs.FactLemmas.{true_and_false}
+use Rattle.cfgx_engine.proofs.NameLemmas.{IsNamed-spelled}
 use Rattle.cfgx_engine.proofs.resolve.facts.Facts.answer.Goals as goal
 
-pub returns-then-is_named : goal.returns-then-is_named
-returns-then-is_named g c =
-    let named = rw c.as_slice.ensures.value at (c.is_named.ensures.0 c.if-is_named.true) in
-    rw (← c.self.view_is) (inl (named, refl))
+pub returns-then-has : goal.returns-then-has
+returns-then-has g c =
+    let of_true = IsNamed-spelled _ _ c.self.invariant.0.0 in
+    rw (← c.self.view_is) (inl (of_true.1 (c.has.ensures.0 c.if-has.true), refl))
 
-pub returns-then-is_named-2 : goal.returns-then-is_named-2
-returns-then-is_named-2 g c =
-    let is_true = rw c.as_slice.ensures.value at c.is_named.ensures in
-    let unknown =
-    rw c.as_slice-else-is_named.ensures.value at c.is_named-else-is_named.ensures in
+pub returns-then-has-2 : goal.returns-then-has-2
+returns-then-has-2 g c =
+    let of_true = IsNamed-spelled _ _ c.self.invariant.0.0 in
+    let of_unknown = IsNamed-spelled _ _ c.self.invariant.1.0 in
     rw (← c.self.view_is) (inr (inl (
-      λ named. true_and_false _ (is_true.1 named) c.if-is_named.false,
-      unknown.0 c.if-is_named-2.true,
+      λ named. true_and_false _ (c.has.ensures.1 (of_true.0 named)) c.if-has.false,
+      of_unknown.1 (c.has-else-has.ensures.0 c.if-has-2.true),
       refl,
     )))
 
-pub returns-else-is_named-2 : goal.returns-else-is_named-2
-returns-else-is_named-2 g c =
-    let is_true = rw c.as_slice.ensures.value at c.is_named.ensures in
-    let unknown =
-    rw c.as_slice-else-is_named.ensures.value at c.is_named-else-is_named.ensures in
+pub returns-else-has-2 : goal.returns-else-has-2
+returns-else-has-2 g c =
+    let of_true = IsNamed-spelled _ _ c.self.invariant.0.0 in
+    let of_unknown = IsNamed-spelled _ _ c.self.invariant.1.0 in
     rw (← c.self.view_is) (inr (inr (
-      λ named. true_and_false _ (is_true.1 named) c.if-is_named.false,
-      λ named. true_and_false _ (unknown.1 named) c.if-is_named-2.false,
+      λ named. true_and_false _ (c.has.ensures.1 (of_true.0 named)) c.if-has.false,
+      λ named. true_and_false _ (c.has-else-has.ensures.1 (of_unknown.0 named)) c.if-has-2.false,
       c.unnamed_answer.ensures,
     )))

@@ -1,8 +1,11 @@
 use Rattle.std.proofs.Common.{take}
 use Rattle.cfgx_engine.specs.{Facts.AreFacts, Request.texts, internal.ReadsFacts.accepts}
+use Rattle.cfgx_engine.specs.internal.Names.{AreNames, facts_in}
 use Rattle.cfgx_engine.proofs.resolve.facts.Facts.read.Given as goal
 
 -- the facts of the words so far
 abbrev pub invariant-loop-index : goal.invariant-loop-index
 invariant-loop-index g l =
-    AreFacts (accepts l.unaskable) (texts (take l.index l.words)) l.facts
+    (AreNames l.of_true × AreNames l.of_unknown)
+    × AreFacts (accepts l.on_unaskable) (texts (take l.index l.words))
+    (facts_in l.of_true l.of_unknown)

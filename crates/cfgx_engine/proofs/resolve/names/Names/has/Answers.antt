@@ -1,0 +1,23 @@
+use Rattle.std.proofs.Common.{of_calls, rules}
+use Rattle.std.proofs.lemmas.Fn.{always_returns_same}
+use Rattle.cfg_expr.specs.Predicate.{question_of}
+use Rattle.cfgx_engine.specs.internal.Names.{code_at, code_cmp, code_of}
+use Rattle.cfgx_engine.proofs.NameLemmas.{found}
+use Rattle.cfgx_engine.proofs.resolve.names.Names.has.Goals as goal
+
+-- the closure compares each code with that of the predicate
+pub returns : goal.returns
+returns g c =
+    let key = code_at c.as_slice-buffer.result.now in
+    let asked = code_of (question_of c.args.predicate.now) in
+    let searched = c.binary_search_by-found.ensures in
+    rw (
+      ← c.self.view_is,
+      ← c.as_slice-buffer.ensures.value,
+      ← c.deref.ensures.value,
+      c.is_ok.ensures.value,
+    ) (found key _ asked _ searched.bound
+    (searched.position (λ named. code_cmp (key named) asked)
+    (always_returns_same _ _ _ (λ a r f' called. search (rules, of_calls))))
+    (rw (← c.self.view_is, ← c.as_slice-buffer.ensures.value, ← c.deref.ensures.value)
+    at c.requires))

@@ -1,0 +1,240 @@
+//! The predicates that facts name, sorted, so that one is found by halving.
+ghost use Rattle.std.specs.Prelude.{◌≡◌, ◌↔◌, ◌++◌, ◌∷◌, [], drop, take, map};
+ghost use Rattle.std.specs.Prelude.{IsTrue, OnOk};
+ghost use Rattle.std.specs.List.{Contains};
+ghost use Rattle.std.specs.List.Sorted.{IsPermutation, IsSorted};
+ghost use Rattle.cfg_expr.specs.Predicate.{question_of, target_of};
+ghost use Rattle.cfgx_engine.specs.internal.Names.{key_of, number_of, target_text, text_of};
+
+use cfg_expr::Predicate;
+use cfg_expr::expr::{Predicates, TargetPredicate};
+use cfg_expr::targets::{Endian, HasAtomic};
+use std::alloc::{AllocError, Allocator};
+use std::cmp::Ordering;
+use std::marker::Model;
+
+/// A predicate in parts. Parts of two predicates differ.
+#[derive(Clone, Copy)]
+struct Parts<'a> {
+    /// The number of its kind
+    kind: u32,
+    /// Its value, if that is a number or a byte order, else 0
+    number: u16,
+    /// Its key, if the kind does not say it
+    key: &'a [u8],
+    /// Its value, if that is a text
+    value: &'a [u8],
+}
+
+impl<'a> Parts<'a> {
+    ghost use Rattle.cfgx_engine.specs.internal.Names.{code, code_cmp, code_of};
+
+    /// Returns the parts of a predicate.
+    fn of(predicate: &'a Predicate<'_>) -> Parts<'a>
+        ensures { code result ≡ code_of (question_of predicate.now) }
+    {
+        Parts {
+            kind: predicate.kind().number(),
+            number: number_of(predicate),
+            key: key_of(predicate).as_bytes(),
+            value: text_of(predicate).as_bytes(),
+        }
+    }
+
+    /// Compares the kinds, and then what else differs first.
+    fn compare(&self, other: &Parts<'_>) -> Ordering
+        ensures { result ≡ code_cmp (code self.now) (code other.now) }
+    {
+        let numbers = self
+            .kind
+            .cmp(&other.kind)
+            .then(self.number.cmp(&other.number));
+        if numbers.is_ne() {
+            return numbers;
+        }
+        self.key.cmp(&other.key).then(self.value.cmp(&other.value))
+    }
+}
+
+/// Returns the value of a predicate, if it is a number or a byte order, else 0.
+fn number_of(predicate: &Predicate<'_>) -> u16
+    ensures { result ≡ number_of (question_of predicate.now) }
+{
+    match predicate {
+        Predicate::Target(TargetPredicate::Endian(Endian::little)) => 1,
+        Predicate::Target(TargetPredicate::HasAtomic(HasAtomic::IntegerSize(bits))) => *bits,
+        Predicate::Target(TargetPredicate::PointerWidth(width)) => u16::from(*width),
+        _ => 0,
+    }
+}
+
+/// Returns the key of a predicate, if the kind does not say it, else an empty text.
+fn key_of<'a>(predicate: &'a Predicate<'_>) -> &'a str
+    ensures { result.now ≡ key_of (question_of predicate.now) }
+{
+    match predicate {
+        Predicate::Flag(key) | Predicate::KeyValue { key, .. } => *key,
+        _ => "",
+    }
+}
+
+/// Returns the value of a predicate, if it is a text, else an empty one.
+fn text_of<'a>(predicate: &'a Predicate<'_>) -> &'a str
+    ensures { result.now ≡ text_of (question_of predicate.now) }
+{
+    match predicate {
+        Predicate::KeyValue { val, .. } => *val,
+        Predicate::Feature(name) | Predicate::TargetFeature(name) => *name,
+        Predicate::Target(target) => target_text(target),
+        _ => "",
+    }
+}
+
+/// Returns the value of a predicate on the target, if it is a text, else an empty one.
+fn target_text<'a>(target: &'a TargetPredicate<'_>) -> &'a str
+    ensures { result.now ≡ target_text (target_of target.now) }
+{
+    match target {
+        TargetPredicate::Abi(name) => name.as_str(),
+        TargetPredicate::Arch(name) => name.as_str(),
+        TargetPredicate::Env(name) => name.as_str(),
+        TargetPredicate::Family(name) => name.as_str(),
+        TargetPredicate::HasAtomic(HasAtomic::Pointer) => "ptr",
+        TargetPredicate::Os(name) => name.as_str(),
+        TargetPredicate::Panic(name) => name.as_str(),
+        TargetPredicate::Vendor(name) => name.as_str(),
+        _ => "",
+    }
+}
+
+/// A predicate that facts name. Its key and its value stand one behind the other in a buffer.
+#[derive(Clone, Copy, Debug)]
+struct Named {
+    kind: u32,
+    number: u16,
+    start: usize,
+    key_len: usize,
+    value_len: usize,
+}
+
+impl Named {
+    ghost use Rattle.cfgx_engine.specs.internal.Names.{code, code_at};
+
+    /// Returns the parts, whose texts lie in `buffer`.
+    fn parts(self, buffer: &[u8]) -> Parts<'_>
+        ensures { code result ≡ code_at buffer.now self }
+    {
+        let texts = behind(buffer, self.start);
+        Parts {
+            kind: self.kind,
+            number: self.number,
+            key: front(texts, self.key_len),
+            value: front(behind(texts, self.key_len), self.value_len),
+        }
+    }
+}
+
+/// Returns the first `len` bytes, or all if there are fewer.
+fn front(bytes: &[u8], len: usize) -> &[u8]
+    ensures { result.now ≡ take len bytes.now }
+{
+    bytes.get(..len).unwrap_or(bytes)
+}
+
+/// Returns what follows the first `len` bytes.
+fn behind(bytes: &[u8], len: usize) -> &[u8]
+    ensures { result.now ≡ drop len bytes.now }
+{
+    bytes.get(len..).unwrap_or(&[])
+}
+
+/// Predicates that facts name. Contracts see their codes.
+#[derive(Drop)]
+#[derive_where(Debug)]
+pub(super) struct Names<A: Allocator> {
+    /// The texts of the predicates
+    buffer: Vec<u8, A>,
+    named: Vec<Named, A>,
+}
+
+impl<A: Allocator> Model for Names<A> {
+    ghost use Rattle.std.specs.Prelude.{length, List, map};
+    ghost use Rattle.std.specs.List.{All};
+    ghost use Rattle.cfgx_engine.specs.internal.Names.{Code, IsInside, code_at};
+
+    ghost Value = { List Code };
+
+    ghost view = { λ names. map (code_at names.buffer.items) names.named.items };
+
+    ghost invariant = { λ names. All (IsInside (length names.buffer.items)) names.named.items };
+}
+
+impl<A: Allocator> Names<A> {
+    ghost use Rattle.cfgx_engine.specs.internal.Names.{code_cmp, code_of};
+
+    /// Makes an empty list. Takes no memory.
+    pub(super) fn new(alloc: A) -> Names<A>
+    where
+        A: Copy,
+        ensures { result ≡ [] }
+    {
+        Names {
+            buffer: Vec::new(alloc),
+            named: Vec::new(alloc),
+        }
+    }
+
+    /// Adds predicates, and copies their texts.
+    pub(super) fn add(&mut self, predicates: Predicates<'_>) -> Result<(), AllocError>
+        ensures { OnOk result
+            (self.new ≡ self.old ++ map code_of predicates.entry) }
+    {
+        for predicate in predicates {
+            self.push(&predicate)?;
+        }
+        Ok(())
+    }
+
+    /// Adds a predicate.
+    fn push(&mut self, predicate: &Predicate<'_>) -> Result<(), AllocError>
+        ensures { OnOk result
+            (self.new ≡ self.old ++ code_of (question_of predicate.now) ∷ []) }
+    {
+        let parts = Parts::of(predicate);
+        let start = self.buffer.len();
+        self.buffer.extend_from_slice(parts.key)?;
+        self.buffer.extend_from_slice(parts.value)?;
+        self.named.push(Named {
+            kind: parts.kind,
+            number: parts.number,
+            start,
+            key_len: parts.key.len(),
+            value_len: parts.value.len(),
+        })?;
+        Ok(())
+    }
+
+    /// Sorts the predicates, so that `has` finds each.
+    pub(super) fn sort(&mut self)
+        ensures same { IsPermutation self.old self.new }
+        ensures sorted { IsSorted code_cmp self.new }
+    {
+        let buffer = self.buffer.as_slice();
+        self.named.sort_unstable_by(|one, other| {
+            one.parts(buffer).compare(&other.parts(buffer))
+        });
+    }
+
+    /// Whether `predicate` is among those that are sorted.
+    pub(super) fn has(&self, predicate: &Predicate<'_>) -> bool
+        requires { IsSorted code_cmp self.now }
+        ensures { IsTrue result ↔ Contains self.now (code_of (question_of predicate.now)) }
+    {
+        let buffer = self.buffer.as_slice();
+        let asked = Parts::of(predicate);
+        let found = self
+            .named
+            .binary_search_by(|named| named.parts(buffer).compare(&asked));
+        found.is_ok()
+    }
+}
