@@ -18,6 +18,7 @@ use Rattle.std.specs.List.Sorted.{IsBinarySearchResult, IsSorted, IsSortedBy, Is
 use Rattle.std.specs.declared.cmp.Ordering.TheVariants.{Equal}
 use Rattle.cfgx_fields.specs.declared.atomic.HasAtomic.TheVariants.{IntegerSize, Pointer}
 use Rattle.cfgx_fields.specs.declared.endian.Endian.TheVariants.{big, little}
+use Rattle.cfgx_fields.specs.declared.text_key.TextKey.TheVariants as key
 use Rattle.cfgx_grammar.specs.Question.{Question, TargetQuestion}
 use Rattle.cfgx_engine.specs.internal.Names.{Code, IsInside, code_at, code_cmp, code_of, code_with}
 use Rattle.cfgx_engine.specs.internal.Names.{AreNames, IsName, question_in, spelled}
@@ -36,18 +37,18 @@ question_in-code Question.debug_assertions = refl
 question_in-code Question.proc_macro = refl
 question_in-code (Question.feature text) = refl
 question_in-code (Question.target_feature text) = refl
-question_in-code (Question.target (TargetQuestion.abi text)) = refl
-question_in-code (Question.target (TargetQuestion.arch text)) = refl
+question_in-code (Question.target (TargetQuestion.text key.Abi text)) = refl
+question_in-code (Question.target (TargetQuestion.text key.Arch text)) = refl
 question_in-code (Question.target (TargetQuestion.endian big)) = refl
 question_in-code (Question.target (TargetQuestion.endian little)) = refl
-question_in-code (Question.target (TargetQuestion.env text)) = refl
-question_in-code (Question.target (TargetQuestion.family text)) = refl
+question_in-code (Question.target (TargetQuestion.text key.Env text)) = refl
+question_in-code (Question.target (TargetQuestion.text key.Family text)) = refl
 question_in-code (Question.target (TargetQuestion.has_atomic (IntegerSize bits))) = refl
 question_in-code (Question.target (TargetQuestion.has_atomic Pointer)) = refl
-question_in-code (Question.target (TargetQuestion.os text)) = refl
-question_in-code (Question.target (TargetQuestion.panic text)) = refl
+question_in-code (Question.target (TargetQuestion.text key.Os text)) = refl
+question_in-code (Question.target (TargetQuestion.text key.Panic text)) = refl
 question_in-code (Question.target (TargetQuestion.pointer_width width)) = refl
-question_in-code (Question.target (TargetQuestion.vendor text)) = refl
+question_in-code (Question.target (TargetQuestion.text key.Vendor text)) = refl
 
 pub one_question : (one other : Question) → code_of one ≡ code_of other → one ≡ other
 one_question one other same =

@@ -102,8 +102,8 @@ enum OnUnaskable {
     PassOver,
 }
 
-/// What is known of a target: which predicates are true, and which are unknown. Contracts see the
-/// texts of the facts, without an outer `cfg( )`.
+/// What is known of a target: which predicates are true, and which are unknown. Contracts see texts
+/// that name these predicates.
 ///
 /// A fact is a text, or `?` and a text. It names every predicate in its text, also one below a
 /// `not`: as unknown if it begins with `?`, and otherwise as true. A predicate that facts of both
