@@ -6,5 +6,6 @@ pub mod Places
 pub mod ReadTokens
 pub mod Rooms
 pub mod Shapes
+pub mod Spans
 pub mod Whole
 pub mod spelled

@@ -136,14 +136,15 @@ impl<'a> TargetPredicate<'a> {
     pub(super) fn of(asked: InnerTarget, text: &'a str) -> Self
         ensures { target_of result ≡ target_with text.now asked }
     {
+        use InnerTarget::Text;
         match asked {
-            InnerTarget::Text(TextKey::Abi) => TargetPredicate::Abi(Abi::new_const(text)),
-            InnerTarget::Text(TextKey::Arch) => TargetPredicate::Arch(Arch::new_const(text)),
-            InnerTarget::Text(TextKey::Env) => TargetPredicate::Env(Env::new_const(text)),
-            InnerTarget::Text(TextKey::Family) => TargetPredicate::Family(Family::new_const(text)),
-            InnerTarget::Text(TextKey::Os) => TargetPredicate::Os(Os::new_const(text)),
-            InnerTarget::Text(TextKey::Panic) => TargetPredicate::Panic(Panic::new_const(text)),
-            InnerTarget::Text(TextKey::Vendor) => TargetPredicate::Vendor(Vendor::new_const(text)),
+            Text(TextKey::Abi) => TargetPredicate::Abi(Abi::new_const(text)),
+            Text(TextKey::Arch) => TargetPredicate::Arch(Arch::new_const(text)),
+            Text(TextKey::Env) => TargetPredicate::Env(Env::new_const(text)),
+            Text(TextKey::Family) => TargetPredicate::Family(Family::new_const(text)),
+            Text(TextKey::Os) => TargetPredicate::Os(Os::new_const(text)),
+            Text(TextKey::Panic) => TargetPredicate::Panic(Panic::new_const(text)),
+            Text(TextKey::Vendor) => TargetPredicate::Vendor(Vendor::new_const(text)),
             InnerTarget::Endian(endian) => TargetPredicate::Endian(endian),
             InnerTarget::HasAtomic(width) => TargetPredicate::HasAtomic(width),
             InnerTarget::PointerWidth(bits) => TargetPredicate::PointerWidth(bits),
@@ -152,27 +153,24 @@ impl<'a> TargetPredicate<'a> {
 }
 
 impl<A: Allocator> TargetPredicate<'_, A> {
-    /// Returns what is asked, and the text that is asked for. For a key whose value is no text,
-    /// this is empty.
+    /// Returns what is asked, and the text that is asked for, which is empty for a number or a
+    /// byte order.
     pub(crate) fn parts(&self) -> (InnerTarget, &str)
         ensures asked { result.0 ≡ inner_target (target_of self.now) }
         ensures text { result.1.now ≡ target_text (target_of self.now) }
     {
-        match self {
-            TargetPredicate::Abi(abi) => (InnerTarget::Text(TextKey::Abi), abi.as_str()),
-            TargetPredicate::Arch(arch) => (InnerTarget::Text(TextKey::Arch), arch.as_str()),
+        use InnerTarget::Text;
+        match asked {
+            TargetPredicate::Abi(abi) => (Text(TextKey::Abi), abi.as_str()),
+            TargetPredicate::Arch(arch) => (Text(TextKey::Arch), arch.as_str()),
             TargetPredicate::Endian(endian) => (InnerTarget::Endian(*endian), ""),
-            TargetPredicate::Env(env) => (InnerTarget::Text(TextKey::Env), env.as_str()),
-            TargetPredicate::Family(family) => {
-                (InnerTarget::Text(TextKey::Family), family.as_str())
-            }
+            TargetPredicate::Env(env) => (Text(TextKey::Env), env.as_str()),
+            TargetPredicate::Family(family) => (Text(TextKey::Family), family.as_str()),
             TargetPredicate::HasAtomic(width) => (InnerTarget::HasAtomic(*width), ""),
-            TargetPredicate::Os(os) => (InnerTarget::Text(TextKey::Os), os.as_str()),
-            TargetPredicate::Panic(panic) => (InnerTarget::Text(TextKey::Panic), panic.as_str()),
+            TargetPredicate::Os(os) => (Text(TextKey::Os), os.as_str()),
+            TargetPredicate::Panic(panic) => (Text(TextKey::Panic), panic.as_str()),
             TargetPredicate::PointerWidth(bits) => (InnerTarget::PointerWidth(*bits), ""),
-            TargetPredicate::Vendor(vendor) => {
-                (InnerTarget::Text(TextKey::Vendor), vendor.as_str())
-            }
+            TargetPredicate::Vendor(vendor) => (Text(TextKey::Vendor), vendor.as_str()),
         }
     }
 }
