@@ -4,4 +4,3 @@ pub mod Described
 pub mod EndsLemmas
 pub mod InputLemmas
 pub mod Located
-pub mod Taken

@@ -29,8 +29,3 @@ pub record HasValueOver (text answers : List ℕ) (value : ℕ) : Type 0 where
 abbrev pub HasOtherCount : List ℕ → List ℕ → Type 0
 HasOtherCount text answers =
     (one : HasOneTree text) × (length answers ≢ length (asked one.tree))
-
--- the answer in the first byte, and unknown if there is none
-abbrev pub first_answer : List ℕ → Option Bool
-first_answer [] = None
-first_answer (byte ∷ bytes) = answer_of byte

@@ -1,13 +1,12 @@
 // Answers and values as bytes.
 
-ghost use Rattle.std.specs.Prelude.{◌≡◌, ◌<◌, IfOk, OnErr, drop, length, map};
+ghost use Rattle.std.specs.Prelude.{◌≡◌, IfOk, map};
 ghost use Rattle.cfgx_grammar.specs.Answer.{HasOneTree};
 ghost use Rattle.cfg_expr.specs.Filling.{three_valued};
 ghost use Rattle.cfg_expr.specs.Fold.{tree_fold};
 ghost use Rattle.cfg_expr.specs.Given.{AreAnswersTo};
-ghost use Rattle.cfgx_c.specs.Value.{answer_of, byte_of_value, first_answer};
+ghost use Rattle.cfgx_c.specs.Value.{answer_of, byte_of_value};
 
-use cfg_expr::Predicate;
 use cfg_expr::expr::Condition;
 use smallvec::SmallVec;
 use std::alloc::{AllocError, Global};
@@ -49,19 +48,6 @@ pub(crate) fn answers_of<'a>(
     Ok(answers)
 }
 
-/// Takes the first of the bytes that are left, and returns the answer in it. It is unknown if none
-/// is left.
-fn take_answer(left: &mut &[u8]) -> Option<bool>
-    ensures answer { result ≡ first_answer left.old.now }
-    ensures rest { left.new.now ≡ drop 1 left.old.now }
-{
-    let Some((first, others)) = left.split_first() else {
-        return None;
-    };
-    *left = others;
-    answer_of(*first)
-}
-
 /// Evaluates a condition over `answers`, which are in the order of its predicates.
 pub(crate) fn eval_over_bytes(
     alloc: Global,
@@ -72,10 +58,5 @@ pub(crate) fn eval_over_bytes(
     ensures { IfOk result (λ value. (one : HasOneTree condition.now)
         × (value ≡ tree_fold three_valued one.tree (map answer_of answers.now))) }
 {
-    let mut left = answers;
-    let value = condition.eval(
-        alloc,
-        &mut |_predicate: &Predicate<'_>| take_answer(&mut left),
-    )?;
-    Ok(value)
+    condition.eval_over(alloc, answers.iter().map(|byte| answer_of(*byte)))
 }

@@ -1,20 +1,33 @@
--- Each call takes one answer, and there are as many as the text's one tree asks for.
-use Rattle.std.proofs.Common.{◌∙◌, ap, length, refl, rules}
-use Rattle.cfgx_grammar.proofs.Answering.{only_tree}
-use Rattle.cfg_expr.specs.Filling.{three_valued}
-use Rattle.cfg_expr.specs.Fold.{tree_fold}
-use Rattle.cfgx_grammar.specs.Tree.{asked}
-use Rattle.cfgx_c.proofs.Taken.{Calls-taken}
+-- The answers come one after another from the bytes.
+use Rattle.std.proofs.Common.{◌∙◌, List, Option, rules, map}
+use Rattle.std.proofs.lemmas.Iterator.{YieldsList, YieldsList-from_map, YieldsList-from_slice}
+use Rattle.std.proofs.lemmas.Iterator.Consumers.{YieldsList-at}
+use Rattle.std.proofs.lemmas.List.{length-map}
+use Rattle.std.proofs.lemmas.Result.{IfOk-weaker}
+use Rattle.std.specs.Iterator.{AlwaysYields}
+use Rattle.cfgx_c.specs.Value.{answer_of}
 use Rattle.cfgx_c.proofs.answers.eval_over_bytes.Goals as goal
+
+runs_of : {S A B : Type 0} {steps : S → Option A → S → Type 0} {v : A → B} {s : S} {ys : List B}
+    → YieldsList steps v s ys → AlwaysYields steps v s ys
+runs_of yields = yields.runs
+
+pub eval_over-requires-clause-given : goal.eval_over-requires-clause-given
+eval_over-requires-clause-given c =
+    let bytes = c.args.answers.now in (
+      map answer_of bytes,
+      runs_of (YieldsList-from_map _ answer_of
+          (YieldsList-at c.map.ensures.source (YieldsList-from_slice bytes c.iter.ensures.rest))
+          c.map.ensures.closure (λ x r q k. search rules)),
+      (c.requires.0, c.requires.1, length-map bytes answer_of ∙ c.requires.2),
+    )
 
 pub returns : goal.returns
 returns c =
-    let e = c.in_ok-value.ensures.value in
-    let count = c.requires.2 ∙ ap (λ tree. length (asked tree))
-    (only_tree e.one c.requires.0 c.requires.1) in (
-      e.one,
-      e.value_is ∙ ap (tree_fold three_valued e.one.tree)
-          (Calls-taken _ (λ closure. closure.0.now.now)
-          (λ before question given after asks. let met = asks.called.met in search rules)
-          _ refl count e.calls),
-    )
+    let bytes = c.args.answers.now in
+    IfOk-weaker c.eval_over.result _ _ (λ value found. found (map answer_of bytes)
+    (runs_of (YieldsList-from_map _ answer_of
+    (YieldsList-at c.map.ensures.source (YieldsList-from_slice bytes c.iter.ensures.rest))
+    c.map.ensures.closure (λ x r q k. search rules)))
+    (c.requires.0, c.requires.1, length-map bytes answer_of ∙ c.requires.2))
+    c.eval_over.ensures.value
