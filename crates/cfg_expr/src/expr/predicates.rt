@@ -160,7 +160,7 @@ impl<A: Allocator> TargetPredicate<'_, A> {
         ensures text { result.1.now ≡ target_text (target_of self.now) }
     {
         use InnerTarget::Text;
-        match asked {
+        match self {
             TargetPredicate::Abi(abi) => (Text(TextKey::Abi), abi.as_str()),
             TargetPredicate::Arch(arch) => (Text(TextKey::Arch), arch.as_str()),
             TargetPredicate::Endian(endian) => (InnerTarget::Endian(*endian), ""),
