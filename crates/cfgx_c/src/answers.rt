@@ -1,6 +1,6 @@
 // Answers and values as bytes.
 
-ghost use Rattle.std.specs.Prelude.{◌≡◌, IfOk, map};
+ghost use Rattle.std.specs.Prelude.{◌≡◌, ◌<◌, IfOk, OnErr, length, map};
 ghost use Rattle.cfgx_grammar.specs.Answer.{HasOneTree};
 ghost use Rattle.cfg_expr.specs.Filling.{three_valued};
 ghost use Rattle.cfg_expr.specs.Fold.{tree_fold};

@@ -15,9 +15,9 @@ use crate::buffer::fill;
 use crate::reading::read_condition;
 use crate::status::{DONE, NOT_UTF8, OUT_OF_MEMORY};
 use cfg_expr::expr::{Condition, ConditionReader};
-use cfgx_parser::nodes::{ExprNode, InnerPredicate, InnerTarget, Located, Span};
 use cfgx_fields::atomic::HasAtomic;
 use cfgx_fields::endian::Endian;
+use cfgx_parser::nodes::{ExprNode, InnerPredicate, InnerTarget, Located, Span};
 use cfgx_syntax::stripping::strip;
 use std::alloc::{AllocError, Global};
 
