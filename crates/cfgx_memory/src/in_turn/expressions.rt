@@ -177,10 +177,7 @@ pub(super) fn is_polar<A: SmallAllocator>(decision: &Decision<A>, count: usize) 
 }
 
 // Checks a decision over `count` unknown answers.
-fn check_decision<A: SmallAllocator>(
-    decision: &AllocResult<Decision<A>>,
-    count: usize,
-) -> Outcome {
+fn check_decision<A: SmallAllocator>(decision: &AllocResult<Decision<A>>, count: usize) -> Outcome {
     match decision {
         Ok(decision) => Ok(is_polar(decision, count)),
         Err(_) => Err(AllocError),
