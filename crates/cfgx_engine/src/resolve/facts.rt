@@ -17,10 +17,11 @@ ghost use Rattle.cfgx_engine.specs.Readings.{ParsesAs};
 ghost use Rattle.cfgx_engine.specs.Request.{texts};
 
 use super::names::Names;
+use cfg_expr::Predicate;
 use cfg_expr::error::{Failure, ParseError};
+use cfg_expr::expr::ConditionReader;
 use cfg_expr::expr::lexer::{Lexer, LexerToken, Token};
 use cfg_expr::memory::SmallAllocator;
-use cfg_expr::{Expression, Kind, Predicate};
 use std::alloc::{AllocError, Allocator, Global};
 use std::marker::Model;
 
@@ -158,10 +159,18 @@ impl<A: SmallAllocator> Facts<A> {
     fn read(alloc: A, words: &[&str], on_unaskable: OnUnaskable) -> Result<Facts<A>, FactsError<A>>
         ensures { ReadsFacts (accepts on_unaskable) (texts words.now) result }
     {
+        let mut reader = ConditionReader::new(alloc);
         let mut of_true = Names::new(alloc);
         let mut of_unknown = Names::new(alloc);
         for (index, word) in words.iter().enumerate() {
-            let added = add_fact(alloc, &mut of_true, &mut of_unknown, word, on_unaskable);
+            let added = add_fact(
+                alloc,
+                &mut reader,
+                &mut of_true,
+                &mut of_unknown,
+                word,
+                on_unaskable,
+            );
             if let Err(failure) = added {
                 return Err(FactsError::at(index, failure));
             }
@@ -190,11 +199,12 @@ impl<A: SmallAllocator> Facts<A> {
 }
 
 /// Reads a fact and adds what it names, if it is not passed over.
-fn add_fact<A: SmallAllocator>(
+fn add_fact<'a, A: SmallAllocator>(
     alloc: A,
+    reader: &mut ConditionReader<'a, A>,
     of_true: &mut Names<A>,
     of_unknown: &mut Names<A>,
-    word: &str,
+    word: &'a str,
     on_unaskable: OnUnaskable,
 ) -> Result<(), Failure<A>>
     requires { AreNames of_true.old × AreNames of_unknown.old }
@@ -205,23 +215,24 @@ fn add_fact<A: SmallAllocator>(
         × ¬ accepts on_unaskable word.now)) }
 {
     match word.strip_prefix('?') {
-        Some(text) => add_text(alloc, of_unknown, text, on_unaskable),
-        None => add_text(alloc, of_true, word, on_unaskable),
+        Some(text) => add_text(alloc, reader, of_unknown, text, on_unaskable),
+        None => add_text(alloc, reader, of_true, word, on_unaskable),
     }
 }
 
 /// Reads the text of a fact and adds what it names, if it is not passed over.
-fn add_text<A: SmallAllocator>(
+fn add_text<'a, A: SmallAllocator>(
     alloc: A,
+    reader: &mut ConditionReader<'a, A>,
     names: &mut Names<A>,
-    text: &str,
+    text: &'a str,
     on_unaskable: OnUnaskable,
 ) -> Result<(), Failure<A>>
     ensures ok { OnOk result (AddsText on_unaskable text.now names.old names.new) }
     ensures err { IfErr result (Fails (λ fault. ParsesAs text.now (Err fault)
         × ¬ passes_over on_unaskable (strip text.now))) }
 {
-    match Expression::parse(alloc, text) {
+    match reader.read(text) {
         Ok(condition) => Ok(names.add(condition.predicates())?),
         Err(Failure::Parse(error)) => match on_unaskable {
             OnUnaskable::Refuse => Err(Failure::Parse(error)),
