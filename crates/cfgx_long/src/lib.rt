@@ -14,6 +14,8 @@ mod checks;
 #[cfg(test)]
 mod deep;
 #[cfg(test)]
+mod facts;
+#[cfg(test)]
 mod generated;
 #[cfg(test)]
 mod input;
