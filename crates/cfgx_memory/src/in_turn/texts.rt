@@ -159,11 +159,12 @@ fn calls_survive(global: Global, calls: &str, text: &str, expected: &Parsed) -> 
     true
 }
 
-// Returns whether runs of the program with `text` survive refusals and end with `status`.
+// Returns whether runs of the program with `text` survive refusals and end with `status`. A flag
+// that names nothing takes no memory, so another one stands behind `text`.
 fn runs_survive(global: Global, text: &str, status: u8) -> bool {
     run_survives(global, &["parse", text], status)
         && run_survives(global, &["eval", text, "a"], status)
-        && run_survives(global, &["eval", "a", text], status)
+        && run_survives(global, &["eval", "a", text, "b"], status)
         && run_survives(global, &["target", IOS, text], status)
 }
 
