@@ -321,19 +321,7 @@ impl<'a, A: SmallAllocator> Parser<'a, A> {
     }
 
     /// Writes the pending predicate or literal, if there is one.
-    // The test costs less than the call, whose result comes through memory.
-    #[inline(always)]
     fn write_pending(&mut self) -> Result<(), Halt>
-        ensures { WritesPending self.old self.new result }
-    {
-        match &self.pending {
-            Some(_) => self.write_leaf(),
-            None => Ok(()),
-        }
-    }
-
-    /// Writes the predicate or literal that is pending.
-    fn write_leaf(&mut self) -> Result<(), Halt>
         ensures { WritesPending self.old self.new result }
     {
         let Some(pending) = &self.pending else {
