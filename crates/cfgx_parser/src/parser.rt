@@ -15,7 +15,7 @@ ghost use Rattle.cfgx_parser.specs.parsing.Fields.{counted_around};
 use crate::classification::{Fault, Pending, Word, classify};
 use crate::function::{Func, FuncKind};
 use crate::nodes::{ExprNode, KEPT_CAPACITY, Mark, Span, Writer};
-use cfgx_syntax::error::{Failure, Reason, terms};
+use cfgx_syntax::error::{Failure, Reason};
 use cfgx_syntax::lexer::{Lexer, LexerToken, Token};
 use cfgx_syntax::memory::SmallAllocator;
 use smallvec::SmallVec;
@@ -104,48 +104,13 @@ impl LastToken {
     }
 }
 
-/// Why parsing stopped.
+/// Why parsing stopped. Small, because every step returns it.
 #[derive(Clone, Copy)]
 pub(crate) enum Halt {
-    /// At this fault
-    Fault(Fault),
+    /// At a fault, which the parser has noted
+    Fault,
     /// Out of memory
     Memory,
-}
-
-impl Halt {
-    ghost use Rattle.cfgx_parser.specs.parsing.Parser.{FailsAsHalted, HaltsAs};
-
-    /// Returns the halt at a fault.
-    fn at(reason: Reason, span: Span) -> Self
-        ensures { HaltsAs result (Err (fault_between (cause_of reason) span.start span.end)) }
-    {
-        Halt::Fault(Fault { reason, span })
-    }
-
-    /// Returns the failure of a text at which parsing stopped. That of a fault has a copy of the
-    /// text, for which memory may be refused.
-    fn failure<A: SmallAllocator>(self, alloc: A, original: &str) -> Failure<A>
-        ensures { FailsAsHalted original.now self result }
-    {
-        match self {
-            Halt::Fault(Fault { reason, span }) => {
-                let Span { start, end } = span;
-                Failure::of(alloc, original, start..end, reason)
-            }
-            Halt::Memory => Failure::Memory(AllocError),
-        }
-    }
-}
-
-impl From<Fault> for Halt {
-    ghost use Rattle.cfgx_parser.specs.declared.parser.Halt.TheVariants.{Fault};
-
-    ghost from_gives = { λ fault halt. halt ≡ Fault fault };
-
-    fn from(fault: Fault) -> Halt {
-        Halt::Fault(fault)
-    }
 }
 
 impl From<AllocError> for Halt {
@@ -169,6 +134,8 @@ pub struct Parser<'a, A: SmallAllocator> {
     writer: Writer<A>,
     /// The predicate or literal that has begun and not ended
     pending: Option<Pending<'a>>,
+    /// The fault at which parsing stopped, until `failure` takes it
+    fault: Option<Fault>,
     /// Each open function, and each member that has ended, has a node
     ghost bounded: { list.members + counted_around (reverse func_stack.items)
         ≤ length writer.nodes.items },
@@ -200,14 +167,14 @@ fn expected(last: LastToken) -> Reason
 {
     use LastToken::*;
     Reason::Unexpected(match last {
-        Start => terms::MEMBER,
-        OpenParen => terms::AFTER_PAREN,
-        Comma => terms::AFTER_COMMA,
-        Key => terms::AFTER_KEY,
-        Equals => terms::AFTER_EQUALS,
-        Value => terms::AFTER_VALUE,
-        Function => terms::AFTER_FUNCTION,
-        CloseParen => terms::AFTER_CLOSING,
+        Start => &["<key>", "all", "any", "not"],
+        OpenParen => &["<key>", ")", "all", "any", "not"],
+        Comma => &[")", "<key>"],
+        Key => &["=", ",", ")"],
+        Equals => &["\""],
+        Value => &[",", ")"],
+        Function => &["("],
+        CloseParen => &[")", ","],
     })
 }
 
@@ -252,7 +219,7 @@ fn unclosed(top: &OpenFunc, list: OpenList, len: usize) -> Fault
             },
         },
         None => Fault {
-            reason: Reason::Unexpected(terms::AFTER_FUNCTION),
+            reason: Reason::Unexpected(&["("]),
             span: top.span,
         },
     }
@@ -262,7 +229,8 @@ impl<'a, A: SmallAllocator> Parser<'a, A> {
     ghost use Rattle.cfgx_grammar.specs.parsing.State.{initial};
     ghost use Rattle.cfgx_parser.specs.parsing.Parser.{state_of, Gives, Opens, WritesPending};
     ghost use Rattle.cfgx_parser.specs.parsing.Parser.{parens_opened, value_added, IsQuoted};
-    ghost use Rattle.cfgx_parser.specs.parsing.Parser.{closed_at, concluded, ReadsAll};
+    ghost use Rattle.cfgx_parser.specs.parsing.Parser.{FailsAsHalted};
+    ghost use Rattle.cfgx_parser.specs.parsing.Parser.{closed_at, concluded, HaltsAs, ReadsAll};
 
     /// Returns a parser that has read nothing of a text of `len` bytes.
     pub fn new(alloc: A, len: usize) -> Self
@@ -273,6 +241,7 @@ impl<'a, A: SmallAllocator> Parser<'a, A> {
             list: OpenList::new(),
             writer: Writer::new(alloc, len),
             pending: None,
+            fault: None,
         }
     }
 
@@ -287,7 +256,8 @@ impl<'a, A: SmallAllocator> Parser<'a, A> {
     }
 
     /// Clears the state for a text of `len` bytes, and keeps the memory. Moves the vectors to the
-    /// heap if the last text wrote a node and left `leaves` inline.
+    /// heap if the last text wrote a node and left `leaves` inline. No fault is left from the last
+    /// text: `failure` has taken it.
     #[inline(always)]
     pub fn restart(&mut self, len: usize) -> Result<(), AllocError>
         ensures { state_of self.new ≡ initial }
@@ -301,6 +271,29 @@ impl<'a, A: SmallAllocator> Parser<'a, A> {
             self.move_to_heap()?;
         }
         Ok(())
+    }
+
+    /// Notes a fault, and returns the halt for it.
+    fn halt(&mut self, reason: Reason, span: Span) -> Halt
+        ensures { HaltsAs result self.new
+            (Err (fault_between (cause_of reason) span.start span.end)) }
+    {
+        self.fault = Some(Fault { reason, span });
+        Halt::Fault
+    }
+
+    /// Returns the failure of a text at which parsing stopped. That of a fault has a copy of the
+    /// text, for which memory may be refused.
+    fn failure(&mut self, alloc: A, original: &str, halt: Halt) -> Failure<A>
+        ensures { FailsAsHalted original.now halt self.old result }
+    {
+        match (halt, self.fault.take()) {
+            (Halt::Fault, Some(fault)) => {
+                let Span { start, end } = fault.span;
+                Failure::of(alloc, original, start..end, fault.reason)
+            }
+            _ => Failure::Memory(AllocError),
+        }
     }
 
     /// Notes the position of the `(` of the innermost function.
@@ -327,7 +320,10 @@ impl<'a, A: SmallAllocator> Parser<'a, A> {
         let Some(pending) = &self.pending else {
             return Ok(());
         };
-        let leaf = classify(pending)?;
+        let leaf = match classify(pending) {
+            Ok(leaf) => leaf,
+            Err(Fault { reason, span }) => return Err(self.halt(reason, span)),
+        };
         self.pending = None;
         self.writer.push_leaf(leaf)?;
         Ok(())
@@ -371,12 +367,12 @@ impl<'a, A: SmallAllocator> Parser<'a, A> {
         ensures { Gives result self.new (closed_at (state_of self.old) span) }
     {
         let Some(top) = self.func_stack.pop() else {
-            return Err(Halt::at(Reason::UnopenedParens, span));
+            return Err(self.halt(Reason::UnopenedParens, span));
         };
         let members = self.list.members + usize::from(self.pending.is_some());
         if !allows_count(top.kind, members) {
             let (start, end) = (top.span.start, span.end);
-            return Err(Halt::at(Reason::InvalidNot(members), Span { start, end }));
+            return Err(self.halt(Reason::InvalidNot(members), Span { start, end }));
         }
         self.write_pending()?;
         self.list = top.around;
@@ -434,7 +430,7 @@ impl<'a, A: SmallAllocator> Parser<'a, A> {
             (step (token_like last) (state_of self.old) (item_of lexed.entry)) }
     {
         if !may_follow(last, lexed.token) {
-            return Err(Halt::at(expected(last), lexed.span.into()));
+            return Err(self.halt(expected(last), lexed.span.into()));
         }
         self.apply(lexed)
     }
@@ -446,9 +442,9 @@ impl<'a, A: SmallAllocator> Parser<'a, A> {
     {
         let whole = Span { start: 0, end: len };
         match self.list.members {
-            0 => Err(Halt::at(Reason::Empty, whole)),
+            0 => Err(self.halt(Reason::Empty, whole)),
             1 => Ok(self.writer.end_list(0)?),
-            _ => Err(Halt::at(Reason::MultipleRootPredicates, whole)),
+            _ => Err(self.halt(Reason::MultipleRootPredicates, whole)),
         }
     }
 
@@ -457,7 +453,8 @@ impl<'a, A: SmallAllocator> Parser<'a, A> {
         ensures { Gives result self.new (concluded (state_of self.old) len) }
     {
         if let Some(top) = self.func_stack.last() {
-            return Err(Halt::Fault(unclosed(top, self.list, len)));
+            let Fault { reason, span } = unclosed(top, self.list, len);
+            return Err(self.halt(reason, span));
         }
         self.end_predicate()?;
         self.end_roots(len)
@@ -468,7 +465,7 @@ impl<'a, A: SmallAllocator> Parser<'a, A> {
         ensures { Gives result self.new (conclude (token_like last) len (state_of self.old)) }
     {
         if lacks_value(last) {
-            return Err(Halt::at(Reason::Unexpected(terms::VALUE), Span::from(len..len)));
+            return Err(self.halt(Reason::Unexpected(&["\"<value>\""]), Span::from(len..len)));
         }
         self.end_text(len)
     }
@@ -485,13 +482,13 @@ impl<'a, A: SmallAllocator> Parser<'a, A> {
             let lexed = lexed?;
             let token = lexed.token;
             if let Err(halt) = self.read(last, lexed) {
-                return Err(halt.failure(alloc, text));
+                return Err(self.failure(alloc, text, halt));
             }
             last = LastToken::of(token);
         }
         match self.finish(last, text.len()) {
             Ok(()) => Ok(()),
-            Err(halt) => Err(halt.failure(alloc, text)),
+            Err(halt) => Err(self.failure(alloc, text, halt)),
         }
     }
 

@@ -7,6 +7,7 @@ use Rattle.cfgx_syntax.specs.Token as spelled
 use Rattle.cfgx_syntax.specs.Items.{Item, Ending, ItemsFrom}
 use Rattle.cfgx_syntax.specs.LexerState.{LexerState}
 use Rattle.cfgx_syntax.specs.Error.{Fault, fault_in, fault_of}
+use Rattle.cfgx_parser.specs.declared.classification.Fault.{Fault as CodeFault}
 use Rattle.cfgx_parser.specs.declared.parser.Halt.{Halt}
 use Rattle.cfgx_parser.specs.declared.parser.Halt.TheVariants as halt
 use Rattle.cfgx_syntax.specs.declared.error.Failure.{Failure}
@@ -33,10 +34,11 @@ state_of p = record {
   written = written_of p.writer;
 }
 
--- a halt at a fault is at that of the steps
-abbrev pub HaltsAs : Halt → Result ParserState Fault → Type 0
-HaltsAs (halt.Fault fault) answer = answer ≡ Err (plain_fault fault)
-HaltsAs halt.Memory answer = Unit {0}
+-- a parser that halts at a fault has noted the fault of the steps
+abbrev pub HaltsAs : {A : Type 0} → Halt → Parser A → Result ParserState Fault → Type 0
+HaltsAs halt.Fault parser answer = (fault : CodeFault) × (parser.fault ≡ Some fault)
+    × (answer ≡ Err (plain_fault fault))
+HaltsAs halt.Memory parser answer = Unit {0}
 
 -- a failure that has a fault has that of the steps
 abbrev pub FailsAs : {A : Type 0} → List ℕ → Failure A → Result ParserState Fault → Type 0
@@ -45,15 +47,15 @@ FailsAs text (failure.Parse error) answer = (fault : Fault) × (answer ≡ Err f
 FailsAs text (failure.Memory error) answer = Unit {0}
 
 -- the failure of a parser that has halted
-abbrev pub FailsAsHalted : {A : Type 0} → List ℕ → Halt → Failure A → Type 0
-FailsAsHalted text h failure =
-    (answer : Result ParserState Fault) → HaltsAs h answer → FailsAs text failure answer
+abbrev pub FailsAsHalted : {A : Type 0} → List ℕ → Halt → Parser A → Failure A → Type 0
+FailsAsHalted {A} text h parser failure = (answer : Result ParserState Fault)
+    → HaltsAs {A = A} h parser answer → FailsAs text failure answer
 
 -- the result of a function that computes a step
 abbrev pub Gives : {A : Type 0} → Result (Unit {0}) Halt → Parser A → Result ParserState Fault
     → Type 0
 Gives {A} (Ok done) new answer = answer ≡ Ok (state_of {A = A} new)
-Gives (Err halt) new answer = HaltsAs halt answer
+Gives {A} (Err halt) new answer = HaltsAs {A = A} halt new answer
 
 abbrev pub item_at : Span → Item
 item_at span = record { token = spelled.Token.comma; start = span.start; end = span.end }
@@ -89,8 +91,8 @@ pub record Wrote {A : Type 0} (old new : Parser A) : Type 0 where
 
 abbrev pub WritesPending : {A : Type 0} → Parser A → Parser A → Result (Unit {0}) Halt → Type 0
 WritesPending {A} old new (Ok done) = Wrote {A = A} old new
-WritesPending {A} old new (Err halt) =
-    HaltsAs halt (pending_written (state_of {A = A} old).pending (state_of {A = A} old))
+WritesPending {A} old new (Err halt) = HaltsAs {A = A} halt new
+    (pending_written (state_of {A = A} old).pending (state_of {A = A} old))
 
 abbrev pub parens_opened : ParserState → ℕ → ParserState
 parens_opened s place = record s { stack = over_top (with_parens place) s.stack }
