@@ -156,7 +156,7 @@ const MIN_CAPACITY: usize = 3;
 
 /// The largest capacity for nodes that is reserved at once. It is 140 KiB: a block of that size
 /// grows where it stands, and is not copied.
-const MAX_CAPACITY: usize = 2560;
+const MAX_CAPACITY: usize = 3584;
 
 /// The capacity that `move_to_heap` reserves for each vector.
 pub(crate) const KEPT_CAPACITY: usize = 8;

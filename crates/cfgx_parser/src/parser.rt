@@ -15,7 +15,7 @@ ghost use Rattle.cfgx_parser.specs.parsing.Fields.{counted_around};
 use crate::classification::{Fault, Pending, Word, classify};
 use crate::function::{Func, FuncKind};
 use crate::nodes::{ExprNode, KEPT_CAPACITY, Mark, Span, Writer};
-use cfgx_syntax::error::{Failure, Reason};
+use cfgx_syntax::error::{Failure, Reason, terms};
 use cfgx_syntax::lexer::{Lexer, LexerToken, Token};
 use cfgx_syntax::memory::SmallAllocator;
 use smallvec::SmallVec;
@@ -107,7 +107,7 @@ impl LastToken {
 /// Why parsing stopped. Small, because every step returns it.
 #[derive(Clone, Copy)]
 pub(crate) enum Halt {
-    /// At a fault, which the parser has noted
+    /// At the fault that the parser has noted
     Fault,
     /// Out of memory
     Memory,
@@ -134,8 +134,9 @@ pub struct Parser<'a, A: SmallAllocator> {
     writer: Writer<A>,
     /// The predicate or literal that has begun and not ended
     pending: Option<Pending<'a>>,
-    /// The fault at which parsing stopped, until `failure` takes it
-    fault: Option<Fault>,
+    /// The fault at which parsing stopped last. It is here, and not in `Halt`, since every step
+    /// returns a `Halt`; before the first fault nothing reads it
+    fault: Fault,
     /// Each open function, and each member that has ended, has a node
     ghost bounded: { list.members + counted_around (reverse func_stack.items)
         ≤ length writer.nodes.items },
@@ -167,14 +168,14 @@ fn expected(last: LastToken) -> Reason
 {
     use LastToken::*;
     Reason::Unexpected(match last {
-        Start => &["<key>", "all", "any", "not"],
-        OpenParen => &["<key>", ")", "all", "any", "not"],
-        Comma => &[")", "<key>"],
-        Key => &["=", ",", ")"],
-        Equals => &["\""],
-        Value => &[",", ")"],
-        Function => &["("],
-        CloseParen => &[")", ","],
+        Start => terms::MEMBER,
+        OpenParen => terms::AFTER_PAREN,
+        Comma => terms::AFTER_COMMA,
+        Key => terms::AFTER_KEY,
+        Equals => terms::AFTER_EQUALS,
+        Value => terms::AFTER_VALUE,
+        Function => terms::AFTER_FUNCTION,
+        CloseParen => terms::AFTER_CLOSING,
     })
 }
 
@@ -219,7 +220,7 @@ fn unclosed(top: &OpenFunc, list: OpenList, len: usize) -> Fault
             },
         },
         None => Fault {
-            reason: Reason::Unexpected(&["("]),
+            reason: Reason::Unexpected(terms::AFTER_FUNCTION),
             span: top.span,
         },
     }
@@ -241,7 +242,10 @@ impl<'a, A: SmallAllocator> Parser<'a, A> {
             list: OpenList::new(),
             writer: Writer::new(alloc, len),
             pending: None,
-            fault: None,
+            fault: Fault {
+                reason: Reason::Empty,
+                span: Span { start: 0, end: 0 },
+            },
         }
     }
 
@@ -278,21 +282,22 @@ impl<'a, A: SmallAllocator> Parser<'a, A> {
         ensures { HaltsAs result self.new
             (Err (fault_between (cause_of reason) span.start span.end)) }
     {
-        self.fault = Some(Fault { reason, span });
+        self.fault = Fault { reason, span };
         Halt::Fault
     }
 
     /// Returns the failure of a text at which parsing stopped. That of a fault has a copy of the
     /// text, for which memory may be refused.
-    fn failure(&mut self, alloc: A, original: &str, halt: Halt) -> Failure<A>
-        ensures { FailsAsHalted original.now halt self.old result }
+    fn failure(&self, alloc: A, original: &str, halt: Halt) -> Failure<A>
+        ensures { FailsAsHalted original.now halt self.now result }
     {
-        match (halt, self.fault.take()) {
-            (Halt::Fault, Some(fault)) => {
-                let Span { start, end } = fault.span;
-                Failure::of(alloc, original, start..end, fault.reason)
+        match halt {
+            Halt::Fault => {
+                let Fault { reason, span } = self.fault;
+                let Span { start, end } = span;
+                Failure::of(alloc, original, start..end, reason)
             }
-            _ => Failure::Memory(AllocError),
+            Halt::Memory => Failure::Memory(AllocError),
         }
     }
 
@@ -314,7 +319,19 @@ impl<'a, A: SmallAllocator> Parser<'a, A> {
     }
 
     /// Writes the pending predicate or literal, if there is one.
+    // The test costs less than the call.
+    #[inline(always)]
     fn write_pending(&mut self) -> Result<(), Halt>
+        ensures { WritesPending self.old self.new result }
+    {
+        match &self.pending {
+            Some(_) => self.write_leaf(),
+            None => Ok(()),
+        }
+    }
+
+    /// Writes the predicate or literal that is pending.
+    fn write_leaf(&mut self) -> Result<(), Halt>
         ensures { WritesPending self.old self.new result }
     {
         let Some(pending) = &self.pending else {
@@ -465,7 +482,7 @@ impl<'a, A: SmallAllocator> Parser<'a, A> {
         ensures { Gives result self.new (conclude (token_like last) len (state_of self.old)) }
     {
         if lacks_value(last) {
-            return Err(self.halt(Reason::Unexpected(&["\"<value>\""]), Span::from(len..len)));
+            return Err(self.halt(Reason::Unexpected(terms::VALUE), Span::from(len..len)));
         }
         self.end_text(len)
     }

@@ -178,11 +178,11 @@ impl<A: Allocator> TargetPredicate<'_, A> {
 impl<'a> Predicate<'a> {
     /// Returns the predicate of a node, with its texts cut out of `text`, in which it stands.
     #[inline(always)]
-    pub(super) fn of(node: Located, text: &'a str) -> Self
-        requires { HasCut text.now node }
-        ensures { question_of result ≡ question_at text.now node }
+    pub(super) fn of(node: &Located, text: &'a str) -> Self
+        requires { HasCut text.now node.now }
+        ensures { question_of result ≡ question_at text.now node.now }
     {
-        let Located { asked, key, value } = node;
+        let Located { asked, key, value } = *node;
         match asked {
             InnerPredicate::Target(target) => {
                 Predicate::Target(TargetPredicate::of(target, value.cut(text)))
@@ -278,7 +278,7 @@ impl<'a> Iterator for Predicates<'a> {
         let (place, others) = self.places.split_first()?;
         self.places = others;
         match self.nodes.get(*place) {
-            Some(ExprNode::Predicate(node)) => Some(Predicate::of(*node, self.text)),
+            Some(ExprNode::Predicate(node)) => Some(Predicate::of(node, self.text)),
             _ => unreachable!(),
         }
     }

@@ -59,14 +59,14 @@ large | 1 | ~k~100000~
 large | 50000 | any(~a,~50000~)
 large | 1 | ~not(~50000~a~)~50000~
 // `parse` takes one growth for its copy of the text, and one for the nodes if there are two or
-// more. Room for more than 2560 nodes takes another one.
+// more. Room for more than 3584 nodes takes another one.
 parsed in 1 | 1 | ~k~1~
 parsed in 1 | 1 | ~k~48~
 parsed in 2 | 1 | not(a)
 parsed in 2 | 3 | all(a, b, c)
 parsed in 2 | 3 | any(~target_os = "a",~3~)
 parsed in 2 | 0 | any(~any(),    ~60~)
-parsed in 3 | 0 | any(~any(),    ~3000~)
+parsed in 3 | 0 | any(~any(),    ~4000~)
 "#;
 
 /// What `parse` returns.

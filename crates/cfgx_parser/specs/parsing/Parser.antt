@@ -7,7 +7,6 @@ use Rattle.cfgx_syntax.specs.Token as spelled
 use Rattle.cfgx_syntax.specs.Items.{Item, Ending, ItemsFrom}
 use Rattle.cfgx_syntax.specs.LexerState.{LexerState}
 use Rattle.cfgx_syntax.specs.Error.{Fault, fault_in, fault_of}
-use Rattle.cfgx_parser.specs.declared.classification.Fault.{Fault as CodeFault}
 use Rattle.cfgx_parser.specs.declared.parser.Halt.{Halt}
 use Rattle.cfgx_parser.specs.declared.parser.Halt.TheVariants as halt
 use Rattle.cfgx_syntax.specs.declared.error.Failure.{Failure}
@@ -36,8 +35,7 @@ state_of p = record {
 
 -- a parser that halts at a fault has noted the fault of the steps
 abbrev pub HaltsAs : {A : Type 0} → Halt → Parser A → Result ParserState Fault → Type 0
-HaltsAs halt.Fault parser answer = (fault : CodeFault) × (parser.fault ≡ Some fault)
-    × (answer ≡ Err (plain_fault fault))
+HaltsAs halt.Fault parser answer = answer ≡ Err (plain_fault parser.fault)
 HaltsAs halt.Memory parser answer = Unit {0}
 
 -- a failure that has a fault has that of the steps
