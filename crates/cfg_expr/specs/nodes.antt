@@ -1,4 +1,4 @@
--- How the nodes of a `ParsedRef` are evaluated, how its answers are filled, and how steps are made
+-- How the nodes of a condition are evaluated, how its answers are filled, and how steps are made
 -- and run. Internal: no public contract cites this.
 pub mod AnswerSlots
 pub mod Parity

@@ -5,7 +5,7 @@ use Rattle.std.proofs.Common.{option_map, Result, Ok, sym, false, Bool, map, Err
 use Rattle.std.proofs.Common.{if◌then◌else◌}
 use Rattle.std.proofs.{lemmas.Bool.Decides.Decides-eqb, lemmas.Bool.false≢true}
 use Rattle.cfgx_syntax.specs.{Token.Token, Items.Item, Error.Fault}
-use Rattle.cfgx_grammar.specs.{Question.{Question, Leaf}, FollowSet.{Kind, takes, kind_of, next}}
+use Rattle.cfgx_grammar.specs.{Question.{Question, Leaf}, FollowSet.{TokenKind, takes, kind_of, next}}
 use Rattle.cfgx_grammar.specs.{Tree.ListFunction, Tree.Tree, Tree.Trees, Tree.count, Grammar.IsLeaf}
 use Rattle.cfgx_grammar.specs.Grammar.{commas, Separates, IsMember, IsList, IsTree, leaf_tokens}
 use Rattle.cfgx_grammar.specs.parsing.State.{Function, Open, name_of, Word, Pending, Builder, State}
@@ -168,7 +168,7 @@ module _ {W M L : Type 0} {builder : Builder W M L} where
 
   -- where a member may follow, it may follow without a comma
   pub Completes-member : (last : Option Token) (s : State builder) (tokens : List Token)
-      → takes last Kind.name ≡ true → (s.pending ≡ None → RestOf NoComma s 0 tokens)
+      → takes last TokenKind.name ≡ true → (s.pending ≡ None → RestOf NoComma s 0 tokens)
       → Completes last s tokens
   Completes-member last s tokens may r = grind arith
 
@@ -181,7 +181,7 @@ module _ {W M L : Type 0} {builder : Builder W M L} where
 
   -- where a comma may follow, the member before it ends
   pub Completes-ended : (last : Option Token) (s t : State builder) (tokens : List Token)
-      → takes last Kind.comma ≡ true → predicate_ended s ≡ Ok t → RestOf Separates t 0 tokens
+      → takes last TokenKind.comma ≡ true → predicate_ended s ≡ Ok t → RestOf Separates t 0 tokens
       → Completes last s tokens
   Completes-ended last s t tokens may ends r =
       let ended = λ (p : Pending) (is : s.pending ≡ Some p).
@@ -190,12 +190,12 @@ module _ {W M L : Type 0} {builder : Builder W M L} where
 
   -- where `)` or the end of the text may follow, no member is left
   pub Completes-none : (last : Option Token) (s t : State builder) (tokens : List Token)
-      → (takes last Kind.closing ≡ true) ⊎ ((lacks_value last ≡ false) × (s.stack ≡ []))
+      → (takes last TokenKind.closing ≡ true) ⊎ ((lacks_value last ≡ false) × (s.stack ≡ []))
       → predicate_ended s ≡ Ok t → Ends t.stack t.roots 0 tokens → Completes last s tokens
   Completes-none last s t tokens may ends e =
-      let named = λ (name : takes last Kind.name ≡ true). Completes-member last s tokens name
+      let named = λ (name : takes last TokenKind.name ≡ true). Completes-member last s tokens name
       (λ none. rw (same_ended s t none ends) (Rest-none NoComma t.stack t.roots 0 tokens refl e)) in
-      let after = λ (comma : takes last Kind.comma ≡ true). Completes-ended last s t tokens comma
+      let after = λ (comma : takes last TokenKind.comma ≡ true). Completes-ended last s t tokens comma
       ends (Rest-none Separates t.stack t.roots 0 tokens tt e) in
       grind (arith, named, after)
 

@@ -4,7 +4,7 @@ use Rattle.std.proofs.Common.{Option, Some, None, Ok, sym, refl, ap, ◌∙◌, 
 use Rattle.std.proofs.Common.{append_assoc, length, take, drop, append-nil}
 use Rattle.std.proofs.Math.Seq.{take-append_seam, drop-append_seam}
 use Rattle.cfgx_syntax.specs.{Token.Token, Items.Item, Items.Ending}
-use Rattle.cfgx_grammar.specs.{Question.Leaf, Question.Question, FollowSet.Kind, FollowSet.takes}
+use Rattle.cfgx_grammar.specs.{Question.Leaf, Question.Question, FollowSet.TokenKind, FollowSet.takes}
 use Rattle.cfgx_grammar.specs.{Classification.Class, Classification.class, FirstFault.lacks_value}
 use Rattle.cfgx_grammar.specs.{LastPredicate.word_of, LastPredicate.class_of, parsing.State.initial}
 use Rattle.cfgx_grammar.specs.{Tree.ListFunction, Tree.Tree, Tree.Trees, Tree.count, Grammar.IsTree}
@@ -81,7 +81,7 @@ no_items (x ∷ items) is = absurd (cc)
 
 -- `)`, `,` or the end may follow, as after a member and the commas behind it
 abbrev IsEnd : Option Token → Type 0
-IsEnd last = (takes last Kind.closing ≡ true) × (takes last Kind.comma ≡ true)
+IsEnd last = (takes last TokenKind.closing ≡ true) × (takes last TokenKind.comma ≡ true)
     × (lacks_value last ≡ false)
 
 -- the function with `n` more members
@@ -115,7 +115,7 @@ module _ {W M L : Type 0} {builder : Builder W M L} where
   }
 
   opens : (last : Option Token) (s : State builder) (function : Function) (head opening : Item)
-      (rest : List Item) → takes last Kind.name ≡ true → head.token ≡ name_of function
+      (rest : List Item) → takes last TokenKind.name ≡ true → head.token ≡ name_of function
       → opening.token ≡ Token.open_paren → step_each last s (head ∷ opening ∷ rest)
       ≡ step_each (Some Token.open_paren) (inside s function head opening) rest
   opens last s function head opening rest may named is = grind arith
@@ -131,7 +131,7 @@ module _ {W M L : Type 0} {builder : Builder W M L} where
 
   -- commas after a member that ends
   commas_run : (n : ℕ) (xs : List Item) (last : Option Token) (s t : State builder) (written : W)
-      → tokens_of xs ≡ Token.comma ∷ commas n → takes last Kind.comma ≡ true
+      → tokens_of xs ≡ Token.comma ∷ commas n → takes last TokenKind.comma ≡ true
       → predicate_ended t ≡ Ok (between s written)
       → step_each last t xs ≡ Ok (Some Token.comma, between s written)
   commas_run zero (x ∷ []) last s t written are may ends = grind arith
@@ -159,7 +159,7 @@ module _ {W M L : Type 0} {builder : Builder W M L} (laws : Laws builder) where
     pub read : Option Token × State builder
     pub written : W
     pub runs : step_each last s items ≡ Ok read
-    pub closes : takes read.0 Kind.closing ≡ true
+    pub closes : takes read.0 TokenKind.closing ≡ true
     pub ends : predicate_ended read.1 ≡ Ok (grown (count trees) (settled s written))
     pub builds : laws.ListBuilds items s.written written trees
 
@@ -182,7 +182,7 @@ module _ {W M L : Type 0} {builder : Builder W M L} (laws : Laws builder) where
   }
 
   MemberEnds-leaf : (last : Option Token) (s : State builder) (items : List Item) (leaf : Leaf)
-      (key : List ℕ) (value : Option (List ℕ)) → takes last Kind.name ≡ true
+      (key : List ℕ) (value : Option (List ℕ)) → takes last TokenKind.name ≡ true
       → tokens_of items ≡ leaf_tokens key value → class key value ≡ Class.is leaf
       → MemberEnds last s items items 0 (leaf_tree leaf)
   MemberEnds-leaf last s (x ∷ []) leaf key None may is classed =
@@ -252,7 +252,7 @@ module _ {W M L : Type 0} {builder : Builder W M L} (laws : Laws builder) where
   -- a call, by its members
   MemberEnds-call : (last : Option Token) (s : State builder) (items : List Item)
       (function : Function) (inner : List Token) (tree : Tree Question) (trees : Trees Question)
-      → takes last Kind.name ≡ true → IsCall (name_of function) (tokens_of items) inner
+      → takes last TokenKind.name ≡ true → IsCall (name_of function) (tokens_of items) inner
       → allows_count function (count trees) ≡ true
       → Calls builder laws.MemberBuilds laws.ListBuilds function tree trees
       → ((start : State builder) (members : List Item) → start.pending ≡ s.pending
@@ -283,7 +283,7 @@ module _ {W M L : Type 0} {builder : Builder W M L} (laws : Laws builder) where
 
   mutual
     pub MemberEnds-member : (tree : Tree Question) (last : Option Token) (s : State builder)
-        (items : List Item) → takes last Kind.name ≡ true → s.pending ≡ None
+        (items : List Item) → takes last TokenKind.name ≡ true → s.pending ≡ None
         → IsMember (tokens_of items) tree → MemberEnds last s items items 0 tree
     MemberEnds-member (Tree.leaf question) last s items may none (key, value, are, says) =
         MemberEnds-leaf last s items (Leaf.predicate question) key value may are says
@@ -302,7 +302,7 @@ module _ {W M L : Type 0} {builder : Builder W M L} (laws : Laws builder) where
         (MemberEnds-member tree _ t xs refl (same ∙ none) (rw xs_are spelled)))))
 
     ListEnds-list : (trees : Trees Question) (last : Option Token) (s : State builder)
-        (items : List Item) → takes last Kind.name ≡ true → takes last Kind.closing ≡ true
+        (items : List Item) → takes last TokenKind.name ≡ true → takes last TokenKind.closing ≡ true
         → s.pending ≡ None → IsList (tokens_of items) trees → ListEnds last s items trees
     ListEnds-list Trees.none last s items named close none list =
         let empty : ListEnds last s [] Trees.none = record {

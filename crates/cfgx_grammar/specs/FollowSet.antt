@@ -5,44 +5,44 @@ use Rattle.cfgx_syntax.specs.Token.{Token}
 use Rattle.cfgx_syntax.specs.Terms as terms
 
 -- the kinds of tokens; a key and the name of a function are of one kind, and begin a member
-pub data Kind : Type 0 where
-  name : Kind
-  equals : Kind
-  value : Kind
-  opening : Kind
-  closing : Kind
-  comma : Kind
+pub data TokenKind : Type 0 where
+  name : TokenKind
+  equals : TokenKind
+  value : TokenKind
+  opening : TokenKind
+  closing : TokenKind
+  comma : TokenKind
 
-abbrev pub kind_of : Token → Kind
-kind_of (Token.value _) = Kind.value
-kind_of Token.equals = Kind.equals
-kind_of Token.open_paren = Kind.opening
-kind_of Token.close_paren = Kind.closing
-kind_of Token.comma = Kind.comma
-kind_of _ = Kind.name
+abbrev pub kind_of : Token → TokenKind
+kind_of (Token.value _) = TokenKind.value
+kind_of Token.equals = TokenKind.equals
+kind_of Token.open_paren = TokenKind.opening
+kind_of Token.close_paren = TokenKind.closing
+kind_of Token.comma = TokenKind.comma
+kind_of _ = TokenKind.name
 
-abbrev pub is_kind : Kind → Kind → Bool
-is_kind Kind.name Kind.name = true
-is_kind Kind.equals Kind.equals = true
-is_kind Kind.value Kind.value = true
-is_kind Kind.opening Kind.opening = true
-is_kind Kind.closing Kind.closing = true
-is_kind Kind.comma Kind.comma = true
+abbrev pub is_kind : TokenKind → TokenKind → Bool
+is_kind TokenKind.name TokenKind.name = true
+is_kind TokenKind.equals TokenKind.equals = true
+is_kind TokenKind.value TokenKind.value = true
+is_kind TokenKind.opening TokenKind.opening = true
+is_kind TokenKind.closing TokenKind.closing = true
+is_kind TokenKind.comma TokenKind.comma = true
 is_kind _ _ = false
 
 -- the kinds that may follow the last token, or stand at the start; the last case is the name of a
 -- function
-abbrev pub followers : Option Token → List Kind
-followers None = Kind.name ∷ []
-followers (Some Token.open_paren) = Kind.name ∷ Kind.closing ∷ []
-followers (Some Token.comma) = Kind.name ∷ Kind.closing ∷ Kind.comma ∷ []
-followers (Some (Token.key _)) = Kind.equals ∷ Kind.closing ∷ Kind.comma ∷ []
-followers (Some Token.equals) = Kind.value ∷ []
-followers (Some (Token.value _)) = Kind.comma ∷ Kind.closing ∷ []
-followers (Some Token.close_paren) = Kind.closing ∷ Kind.comma ∷ []
-followers _ = Kind.opening ∷ []
+abbrev pub followers : Option Token → List TokenKind
+followers None = TokenKind.name ∷ []
+followers (Some Token.open_paren) = TokenKind.name ∷ TokenKind.closing ∷ []
+followers (Some Token.comma) = TokenKind.name ∷ TokenKind.closing ∷ TokenKind.comma ∷ []
+followers (Some (Token.key _)) = TokenKind.equals ∷ TokenKind.closing ∷ TokenKind.comma ∷ []
+followers (Some Token.equals) = TokenKind.value ∷ []
+followers (Some (Token.value _)) = TokenKind.comma ∷ TokenKind.closing ∷ []
+followers (Some Token.close_paren) = TokenKind.closing ∷ TokenKind.comma ∷ []
+followers _ = TokenKind.opening ∷ []
 
-abbrev pub takes : Option Token → Kind → Bool
+abbrev pub takes : Option Token → TokenKind → Bool
 takes last kind = list_any (is_kind kind) (followers last)
 
 -- whether the token may follow the last one, or stand at the start

@@ -9,7 +9,7 @@ use Rattle.std.proofs.lemmas.Option.{slice_get_within, slice_get_past}
 use Rattle.cfgx_syntax.specs.{Token.Token, Items.Item, Items.Ending, Items.lexical}
 use Rattle.cfgx_syntax.specs.Error.{Fault, invalid_not}
 use Rattle.cfgx_grammar.specs.{Tree.ListFunction, Depth.members, Depth.first_below}
-use Rattle.cfgx_grammar.specs.FollowSet.{Kind, takes, kind_of, is_kind, next}
+use Rattle.cfgx_grammar.specs.FollowSet.{TokenKind, takes, kind_of, is_kind, next}
 use Rattle.cfgx_grammar.specs.Depth.{names_function, is_closing, depth, depth_at, innermost}
 use Rattle.cfgx_grammar.specs.LastPredicate.{predicate_last, word_of, with_value}
 use Rattle.cfgx_grammar.specs.FirstFault.{predicate_fault, head_token, last_token, lacks_value}
@@ -63,20 +63,20 @@ closings prefix = count_by (λ item. is_closing item.token) prefix
 
 -- What a token of this kind says of those before it. Before a name no predicate is pending and the
 -- last token is no function's name; before `(` stands such a name, and before `=` a key.
-abbrev pub Says : Kind → Option Pending → Option Pending → Bool → Type 0
-Says Kind.name begun key names = (begun ≡ None) × (names ≡ false)
-Says Kind.opening begun key names = (begun ≡ None) × (names ≡ true)
-Says Kind.equals begun key names = (begun ≡ key) × (names ≡ false)
-Says Kind.value begun key names = names ≡ false
+abbrev pub Says : TokenKind → Option Pending → Option Pending → Bool → Type 0
+Says TokenKind.name begun key names = (begun ≡ None) × (names ≡ false)
+Says TokenKind.opening begun key names = (begun ≡ None) × (names ≡ true)
+Says TokenKind.equals begun key names = (begun ≡ key) × (names ≡ false)
+Says TokenKind.value begun key names = names ≡ false
 Says _ begun key names = Unit {0}
 
-pub says : (kind : Kind) (back : List Item) → takes (head_token back) kind ≡ true
+pub says : (kind : TokenKind) (back : List Item) → takes (head_token back) kind ≡ true
     → Says kind (begun_last back) (predicate_last (take 1 back)) (names_last (head_token back))
 says kind back may = grind arith
 
 -- a value ends the predicate whose key and `=` stand before it
 value_says : (text : List ℕ) (start end : ℕ) (back : List Item)
-    → takes (head_token back) Kind.value ≡ true
+    → takes (head_token back) TokenKind.value ≡ true
     → option_map (with_value (word_of text (start + 1) (end - 1))) (begun_last back)
     ≡ predicate_last (record { token = Token.value text; start = start; end = end } ∷ back)
 value_says text start end back may = grind arith
@@ -207,23 +207,23 @@ module _ {W M L : Type 0} {builder : Builder W M L} (prefix : List Item) (s : St
 
     -- a token that neither opens nor closes a function and begins no member
     stays : (token : Token) (t : State builder) (w : ℕ) → names_function token ≡ false
-        → is_kind Kind.name (kind_of token) ≡ false → Rises token (length t.stack)
+        → is_kind TokenKind.name (kind_of token) ≡ false → Rises token (length t.stack)
         → t.pending ≡ begun_token (at token) (reverse prefix) token → going t.pending ≡ w
         → Levels prefix t.roots false t.stack w → Matches (more token) t
     stays token t w no_name other rises pending goes levels =
         grind (arith, common_steps, Levels-same, balanced, members_at_other)
 
     -- the name of a function
-    name_step : (function : Function) → takes (last_token prefix) Kind.name ≡ true
+    name_step : (function : Function) → takes (last_token prefix) TokenKind.name ≡ true
         → names_function (name_of function) ≡ true → is_closing (name_of function) ≡ false
-        → is_kind Kind.name (kind_of (name_of function)) ≡ true
+        → is_kind TokenKind.name (kind_of (name_of function)) ≡ true
         → begun_token (at (name_of function)) (reverse prefix) (name_of function) ≡ None
         → Meets (Matches (more (name_of function))) (Ok (opened s function (at (name_of function))))
         None
     name_step function may is_name no_close begins none =
         let token = name_of function in
         let item = at token in
-        let a = says Kind.name (reverse prefix) may in
+        let a = says TokenKind.name (reverse prefix) may in
         let pending : s.pending ≡ None = m.pending ∙ a.0 in
         let rises : Rises token (suc (length s.stack)) = rw (is_name, no_close) (omega arith) in
         let long = length_more prefix item in
@@ -250,8 +250,8 @@ module _ {W M L : Type 0} {builder : Builder W M L} (prefix : List Item) (s : St
         (refl, matched token _ _ (pending ∙ sym none) refl rises (rw is_name (here, outer)))
 
     -- `,` and `)`, before which a predicate ends
-    ended_here : (takes (last_token prefix) Kind.closing ≡ true)
-        ⊎ (takes (last_token prefix) Kind.comma ≡ true)
+    ended_here : (takes (last_token prefix) TokenKind.closing ≡ true)
+        ⊎ (takes (last_token prefix) TokenKind.comma ≡ true)
         → Meets (Ended prefix false s) (predicate_ended s) (predicate_fault prefix)
     ended_here which = grind arith
 
@@ -291,25 +291,25 @@ module _ {W M L : Type 0} {builder : Builder W M L} (prefix : List Item) (s : St
     token_step : (token : Token) → next (last_token prefix) token ≡ true
         → Meets (Matches (more token)) (apply s (at token) token) (fault_by prefix (at token))
     token_step (Token.key text) may = let token = Token.key text in
-        let a = says Kind.name (reverse prefix) may in
+        let a = says TokenKind.name (reverse prefix) may in
         let levels = Levels-member prefix (at token) s.roots s.stack
         (omega (arith, balanced token (length s.stack) refl)) (depth_is prefix s m) refl
         (rw (m.pending ∙ a.0, a.1) at m.levels) in
         (refl, matched token _ 1 refl refl refl levels)
     token_step (Token.value text) may =
-        let levels = rw (says Kind.value (reverse prefix) may) at m.levels in
+        let levels = rw (says TokenKind.value (reverse prefix) may) at m.levels in
         let pending = ap (option_map (with_value (word_of text (start + 1) (end - 1)))) m.pending
         ∙ value_says text start end (reverse prefix) may in
         let left = stays (Token.value text) _ (going s.pending) refl refl refl pending
         (grind arith) levels in (refl, left)
-    token_step Token.equals may = let a = says Kind.equals (reverse prefix) may in
+    token_step Token.equals may = let a = says TokenKind.equals (reverse prefix) may in
         let levels = rw a.1 at m.levels in
         (refl, stays Token.equals _ _ refl refl refl (m.pending ∙ a.0) refl levels)
     token_step Token.all may = name_step (Function.list ListFunction.all) may refl refl refl refl
     token_step Token.any may = name_step (Function.list ListFunction.any) may refl refl refl refl
     token_step Token.not may = name_step Function.not may refl refl refl refl
     token_step Token.open_paren may = let token = Token.open_paren in
-        let a = says Kind.opening (reverse prefix) may in
+        let a = says TokenKind.opening (reverse prefix) may in
         let levels = Levels-open prefix (at token) s.roots (going s.pending) s.stack
         (omega (arith, balanced token (length s.stack) refl)) refl (rw a.1 at m.levels) in
         let rises : Rises token (length (over_top (with_parens start) s.stack)) = grind arith in
