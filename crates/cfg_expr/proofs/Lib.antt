@@ -3,6 +3,7 @@ pub mod AskedPredicates
 pub mod Chains
 pub mod Dealing
 pub mod Exactness
+pub mod Located
 pub mod MappedValues
 pub mod Matched
 pub mod MatchedLanes

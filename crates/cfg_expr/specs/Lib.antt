@@ -6,6 +6,7 @@ pub mod Filling
 pub mod Fold
 pub mod Given
 pub mod Homomorphism
+pub mod Located
 pub mod Matching
 pub mod Predicate
 pub mod Steps

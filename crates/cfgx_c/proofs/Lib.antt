@@ -3,4 +3,3 @@ pub mod CSteps
 pub mod Described
 pub mod EndsLemmas
 pub mod InputLemmas
-pub mod Located

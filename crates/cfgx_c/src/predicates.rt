@@ -2,22 +2,17 @@
 
 ghost use Rattle.std.specs.Prelude.{◌≡◌, ◌≢◌, ◌≤◌, ◌<◌, ◌+◌, ◌^◌, ℕ, List, IfOk, length};
 ghost use Rattle.cfgx_syntax.specs.Stripping.{strip};
-ghost use Rattle.cfgx_parser.specs.nodes.KeepsTree.{predicate_at};
-ghost use Rattle.cfgx_parser.specs.nodes.Located.{HasCut, question_with};
+ghost use Rattle.cfg_expr.specs.Located.{CanBeCut};
 ghost use Rattle.cfgx_c.specs.Answers.{TellsOf};
 ghost use Rattle.cfgx_c.specs.Buffer.{Fills};
-ghost use Rattle.cfgx_c.specs.Predicates.{CanBeCut, ListsPredicates, atomic_number, c_predicate};
-ghost use Rattle.cfgx_c.specs.Predicates.{endian_number, key_span, moved, number_of, value_span};
+ghost use Rattle.cfgx_c.specs.Predicates.{HasSpans, ListsPredicates, c_predicate, moved};
 ghost use Rattle.cfgx_c.specs.Status.{done, not_utf8, wrong_use};
 ghost use Rattle.cfgx_c.specs.declared.predicates.CfgxPredicate.{CfgxPredicate};
 
 use crate::buffer::fill;
 use crate::reading::read_condition;
 use crate::status::{DONE, NOT_UTF8, OUT_OF_MEMORY};
-use cfg_expr::expr::{Condition, ConditionReader};
-use cfgx_fields::atomic::HasAtomic;
-use cfgx_fields::endian::Endian;
-use cfgx_parser::nodes::{ExprNode, InnerPredicate, InnerTarget, Located, Span};
+use cfg_expr::expr::{Condition, ConditionReader, LocatedPredicate, Span};
 use cfgx_syntax::stripping::strip;
 use std::alloc::{AllocError, Global};
 
@@ -41,62 +36,6 @@ pub struct CfgxPredicate {
     pub value_end: usize,
 }
 
-/// Returns the number of a byte order.
-fn endian_number(endian: Endian) -> u32
-    ensures { result ≡ endian_number endian }
-{
-    match endian {
-        Endian::big => 0,
-        Endian::little => 1,
-    }
-}
-
-/// Returns the number of bits of an atomic, or 65536 for the width of a pointer.
-fn atomic_number(width: HasAtomic) -> u32
-    ensures { result ≡ atomic_number width }
-{
-    match width {
-        HasAtomic::IntegerSize(bits) => u32::from(bits),
-        HasAtomic::Pointer => 65536,
-    }
-}
-
-/// Returns the number of a width, of an atomic or of a byte order, and 0 for every other predicate.
-fn number_of(predicate: InnerPredicate) -> u32
-    ensures { (key : List ℕ) → (value : List ℕ)
-        → result ≡ number_of (question_with key value predicate) }
-{
-    match predicate {
-        InnerPredicate::Target(InnerTarget::Endian(endian)) => endian_number(endian),
-        InnerPredicate::Target(InnerTarget::HasAtomic(width)) => atomic_number(width),
-        InnerPredicate::Target(InnerTarget::PointerWidth(width)) => u32::from(width),
-        _ => 0,
-    }
-}
-
-/// Returns the span of the key, if the kind does not say it.
-fn key_span(predicate: Located) -> Option<Span>
-    ensures { result ≡ key_span predicate.key predicate.asked }
-{
-    match predicate.asked {
-        InnerPredicate::Flag | InnerPredicate::KeyValue => Some(predicate.key),
-        _ => None,
-    }
-}
-
-/// Returns the span of the value, if there is one and the number does not say it.
-fn value_span(predicate: Located) -> Option<Span>
-    ensures { result ≡ value_span predicate.value predicate.asked }
-{
-    match predicate.asked {
-        InnerPredicate::Target(InnerTarget::Text(_))
-        | InnerPredicate::Feature
-        | InnerPredicate::TargetFeature
-        | InnerPredicate::KeyValue => Some(predicate.value),
-        _ => None,
-    }
-}
-
 /// Returns the span with `offset` more bytes before it. Without a span, returns that from 0 to 0.
 fn moved(span: Option<Span>, offset: usize) -> Span
     requires { (text : List ℕ) × CanBeCut text span × (length text + offset < 2 ^ 64) }
@@ -112,29 +51,19 @@ fn moved(span: Option<Span>, offset: usize) -> Span
 }
 
 /// Returns a predicate as C sees it. `offset` bytes were stripped before the text.
-fn c_predicate(predicate: Located, offset: usize) -> CfgxPredicate
-    requires { (text : List ℕ) × HasCut text predicate × (length text + offset < 2 ^ 64) }
-    ensures { (text : List ℕ) → result ≡ c_predicate text offset predicate }
+fn c_predicate(predicate: LocatedPredicate, offset: usize) -> CfgxPredicate
+    requires { (text : List ℕ) × HasSpans text predicate × (length text + offset < 2 ^ 64) }
+    ensures { result ≡ c_predicate offset predicate }
 {
-    let key = moved(key_span(predicate), offset);
-    let value = moved(value_span(predicate), offset);
+    let key = moved(predicate.key, offset);
+    let value = moved(predicate.value, offset);
     CfgxPredicate {
-        kind: predicate.asked.kind().number(),
-        number: number_of(predicate.asked),
+        kind: predicate.kind.number(),
+        number: predicate.number,
         key_start: key.start,
         key_end: key.end,
         value_start: value.start,
         value_end: value.end,
-    }
-}
-
-/// Returns the predicate at `place` among the nodes, if there is one.
-fn predicate_at(nodes: &[ExprNode], place: usize) -> Option<Located>
-    ensures { result ≡ predicate_at nodes.now place }
-{
-    match nodes.get(place) {
-        Some(ExprNode::Predicate(predicate)) => Some(*predicate),
-        _ => None,
     }
 }
 
@@ -151,12 +80,10 @@ pub(crate) fn predicates_of(
     ensures { IfOk result (λ list. ListsPredicates text.now list.items) }
 {
     let offset = strip(text).offset;
-    let nodes = condition.nodes();
-    let mut list = Vec::with_capacity(alloc, condition.places().len())?;
-    for place in condition.places() {
-        if let Some(predicate) = predicate_at(nodes, *place) {
-            list.push(c_predicate(predicate, offset))?;
-        }
+    let predicates = condition.located_predicates();
+    let mut list = Vec::with_capacity(alloc, predicates.left())?;
+    for predicate in predicates {
+        list.push(c_predicate(predicate, offset))?;
     }
     Ok(list)
 }

@@ -12,9 +12,12 @@ ghost use Rattle.cfgx_parser.specs.nodes.WritesNodes.{NodeHasCut};
 ghost use Rattle.cfg_expr.specs.Deciding.{AreFillings, Decides, IsExactOverAll, held};
 ghost use Rattle.cfg_expr.specs.Evaluation.{AsksInOrder, EvaluatesTo, MayEvaluate};
 ghost use Rattle.cfg_expr.specs.Evaluation.{IsByLaneOverAll, IsValueInLanes};
+ghost use Rattle.cfg_expr.specs.Located.{AreLocated};
 ghost use Rattle.cfg_expr.specs.Steps.{AreSteps};
 
-use super::{Decision, Logic, Predicate, Predicates, Step, evaluating, filling, steps};
+use super::{
+    Decision, LocatedPredicates, Logic, Predicate, Predicates, Step, evaluating, filling, steps,
+};
 use crate::error::Failure;
 use crate::memory::SmallAllocator;
 use cfgx_parser::nodes::ExprNode;
@@ -58,7 +61,7 @@ impl<'a> Condition<'a> {
 
     /// Returns the nodes of the tree, in source order. There are no more nodes than bytes. The text
     /// can be cut at their spans, which are those of its tokens, one behind another.
-    pub fn nodes(&self) -> &'a [ExprNode]
+    pub(super) fn nodes(&self) -> &'a [ExprNode]
         ensures nodes { (one : HasOneTree self.now)
             × (map (node_at self.now) result.now ≡ prefix one.tree) }
         ensures few { length result.now ≤ length self.now }
@@ -69,7 +72,7 @@ impl<'a> Condition<'a> {
     }
 
     /// Returns the places of the predicates among the nodes, in the order in which they are asked.
-    pub fn places(&self) -> &'a [usize]
+    pub(super) fn places(&self) -> &'a [usize]
         ensures { (one : HasOneTree self.now) × (result.now ≡ places 0 one.tree) }
     {
         self.places
@@ -81,6 +84,16 @@ impl<'a> Condition<'a> {
         ensures { AsksInOrder self.now result }
     {
         Predicates::new(self.original, self.nodes, self.places)
+    }
+
+    /// Returns the predicates where they stand, in the order in which they are asked.
+    pub fn located_predicates(&self) -> LocatedPredicates<'a>
+        ensures { AreLocated self.now result }
+    {
+        LocatedPredicates {
+            nodes: self.nodes,
+            places: self.places,
+        }
     }
 
     /// Evaluates the condition over what `ep` answers, as `Expression::eval` does.

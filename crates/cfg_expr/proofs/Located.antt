@@ -1,24 +1,25 @@
--- The tree of a text with each predicate as its node has it.
+-- The predicates of a text where its nodes have them.
 use Rattle.std.proofs.Common.{◌≡◌, ℕ, suc, List, [], ◌∷◌, ◌++◌, Some, length, map, refl, sym, ap}
 use Rattle.std.proofs.Common.{◌∙◌, arith}
 use Rattle.std.proofs.lemmas.{List.length-map, Option.slice_get-map}
 use Rattle.std.specs.Prelude.{option_map}
-use Rattle.std.specs.List.{slice_get}
-use Rattle.cfgx_syntax.specs.Stripping.{strip, strip_offset}
+use Rattle.std.specs.List.{AllZip, slice_get}
 use Rattle.cfgx_grammar.proofs.Alike.{Alike, AlikeEach}
-use Rattle.cfgx_grammar.specs.Answer.{HasOneTree}
 use Rattle.cfgx_grammar.specs.Tree.{Tree, Trees, asked, count}
-use Rattle.cfg_expr.proofs.AskedPredicates.{filter_map-some}
+use Rattle.cfg_expr.proofs.AskedPredicates.{NamePredicates-kept, filter_map-some}
+use Rattle.cfg_expr.proofs.AskedPredicates.{questions_at-kept}
 use Rattle.cfgx_parser.proofs.Places.{read-places}
 use Rattle.cfgx_parser.proofs.Shapes.{places-shape}
-use Rattle.cfgx_parser.specs.nodes.KeepsTree.{predicate_at}
-use Rattle.cfgx_parser.specs.nodes.Located.{question_at}
+use Rattle.cfgx_parser.specs.nodes.KeepsTree.{KeepsOneTree, NamePredicates, predicate_at}
+use Rattle.cfgx_parser.specs.nodes.KeepsTree.{questions_at}
+use Rattle.cfgx_parser.specs.nodes.Located.{HasCut, at, question_at}
 use Rattle.cfgx_parser.specs.nodes.Prefix.{Node, node_at, node_map, places, prefix, prefix_each}
-use Rattle.cfgx_parser.specs.nodes.ReadFrom.{AreRead, inner_node}
+use Rattle.cfgx_parser.specs.nodes.ReadFrom.{inner_node}
 use Rattle.cfgx_parser.specs.declared.nodes.ExprNode.{ExprNode}
 use Rattle.cfgx_parser.specs.declared.nodes.Located.{Located}
-use Rattle.cfgx_c.specs.declared.predicates.CfgxPredicate.{CfgxPredicate}
-use Rattle.cfgx_c.specs.Predicates.{AreInPlace, c_predicate, c_predicates}
+use Rattle.cfg_expr.specs.Located.{AreLocated, CanBeCut, Locates, key_span, key_text}
+use Rattle.cfg_expr.specs.Located.{located_at, number_of, of_node, value_span, value_text}
+use Rattle.cfgx_parser.specs.Kinds.{kind_of}
 
 -- Nodes whose images are those of a tree are those of a tree.
 
@@ -98,32 +99,74 @@ map-some : {X Y : Type 0} (f : X → Y) (xs : List X)
 map-some f [] = refl
 map-some f (x ∷ xs) = ap (λ l. Some (f x) ∷ l) (map-some f xs)
 
-module _ (text : List ℕ) (nodes : List ExprNode) (asks : List ℕ) (one : HasOneTree (strip text))
-    (nodes_are : map (node_at (strip text)) nodes ≡ prefix one.tree)
-    (places_are : asks ≡ places 0 one.tree) (read : AreRead (strip text) (map inner_node nodes))
-  where
-    abbrev shown : Located → CfgxPredicate
-    shown = c_predicate (strip text) (strip_offset text)
+listed_all : (nodes : List ExprNode) (located : Tree Located) → prefix located ≡ map inner_node nodes
+    → located_at nodes (places 0 located) ≡ map of_node (asked located)
+listed_all nodes located is =
+    let reads = read-places located (λ place. option_map of_node (predicate_at nodes place))
+    (λ inner. Some (of_node inner)) (λ place inner leaf. ap (option_map of_node)
+    (predicate_at-leaf nodes place inner (rw is at leaf))) in
+    filter_map-some _ (places 0 located) _ (reads ∙ map-some of_node (asked located))
 
-    listed_all : (located : Tree Located) → prefix located ≡ map inner_node nodes
-        → asks ≡ places 0 located
-        → c_predicates (strip text) (strip_offset text) nodes asks ≡ map shown (asked located)
-    listed_all located is ask =
-        let reads = read-places located (λ place. option_map shown (predicate_at nodes place))
-        (λ inner. Some (shown inner)) (λ place inner leaf. ap (option_map shown)
-        (predicate_at-leaf nodes place inner (rw is at leaf))) in
-        filter_map-some _ asks _ (ap (map _) ask ∙ reads ∙ map-some shown (asked located))
+-- the parts of a predicate, and where they stand
 
-    pub AreInPlace-read : AreInPlace text (c_predicates (strip text) (strip_offset text) nodes asks)
-    AreInPlace-read =
-        let (located, is, alike) = from_tree (question_at (strip text)) one.tree
-        (map inner_node nodes) (node_map-inner (strip text) nodes ∙ nodes_are) in
-        record {
-          one = one;
-          located = located;
-          questions = ap (map (node_map (question_at (strip text)))) is
-              ∙ node_map-inner (strip text) nodes ∙ nodes_are;
-          read = rw is read;
-          listed = listed_all located is
-              (places_are ∙ sym (places-shape located one.tree alike));
-        }
+key_same : (text : List ℕ) (p : Located)
+    → option_map (at text) (key_span p.key p.asked) ≡ key_text (question_at text p)
+key_same text p = grind arith
+
+value_same : (text : List ℕ) (p : Located)
+    → option_map (at text) (value_span p.value p.asked) ≡ value_text (question_at text p)
+value_same text p = grind arith
+
+key_cut : (text : List ℕ) (p : Located) → HasCut text p → CanBeCut text (key_span p.key p.asked)
+key_cut text p cut = grind arith
+
+value_cut : (text : List ℕ) (p : Located) → HasCut text p
+    → CanBeCut text (value_span p.value p.asked)
+value_cut text p cut = grind arith
+
+kind_same : (text : List ℕ) (p : Located) → (of_node p).kind ≡ kind_of (question_at text p)
+kind_same text p = grind arith
+
+number_same : (text : List ℕ) (p : Located) → (of_node p).number ≡ number_of (question_at text p)
+number_same text p = grind arith
+
+Locates-of : (text : List ℕ) (p : Located) → HasCut text p
+    → Locates text (question_at text p) (of_node p)
+Locates-of text p cut = record {
+  kind = kind_same text p;
+  number = number_same text p;
+  key = record { cut = key_cut text p cut; are = key_same text p };
+  value = record { cut = value_cut text p cut; are = value_same text p };
+}
+
+listed_each : (text : List ℕ) (nodes : List ExprNode) (asks : List ℕ)
+    → NamePredicates text nodes asks
+    → AllZip (Locates text) (questions_at text nodes asks) (located_at nodes asks)
+listed_each text nodes [] names = tt
+listed_each text nodes (place ∷ asks) names = rw names.0.stands
+    (Locates-of text names.0.predicate names.0.cut, listed_each text nodes asks names.1)
+
+-- one predicate for each place
+pub length-located_at : (text : List ℕ) (nodes : List ExprNode) (asks : List ℕ)
+    → NamePredicates text nodes asks → length (located_at nodes asks) ≡ length asks
+length-located_at text nodes [] names = refl
+length-located_at text nodes (place ∷ asks) names =
+    rw names.0.stands (ap suc (length-located_at text nodes asks names.1))
+
+pub AreLocated-kept : (text : List ℕ) (nodes : List ExprNode) (asks : List ℕ)
+    → KeepsOneTree text nodes asks → AreLocated text (located_at nodes asks)
+AreLocated-kept text nodes asks kept =
+    let (located, is, alike) = from_tree (question_at text) kept.one.tree
+    (map inner_node nodes) (node_map-inner text nodes ∙ kept.keeps.nodes_are) in
+    let asks_are : asks ≡ places 0 located =
+    kept.keeps.places_are ∙ sym (places-shape located kept.one.tree alike) in
+    record {
+      one = kept.one;
+      each = rw (← questions_at-kept kept.keeps)
+          (listed_each text nodes asks (NamePredicates-kept kept.keeps));
+      located = located;
+      questions = ap (map (node_map (question_at text))) is
+          ∙ node_map-inner text nodes ∙ kept.keeps.nodes_are;
+      read = rw is kept.read;
+      listed = ap (located_at nodes) asks_are ∙ listed_all nodes located is;
+    }
