@@ -1,5 +1,4 @@
 //! Borrowed conditions, and a reader that reads one condition after another.
-ghost use Rattle.std.specs.List.{AllByRecursion};
 ghost use Rattle.std.specs.Prelude.{◌≡◌, ◌≤◌, length, map, IfOk, IsOk, List, OnErr, OnOk};
 ghost use Rattle.std.specs.Iterator.{AlwaysYields, IsFinite};
 ghost use Rattle.cfgx_syntax.specs.Stripping.{strip};
@@ -7,8 +6,6 @@ ghost use Rattle.cfg_expr.specs.Given.{AreAnswersTo};
 ghost use Rattle.cfgx_grammar.specs.Answer.{Answers, HasOneTree};
 ghost use Rattle.cfg_expr.specs.Fold.{tree_fold};
 ghost use Rattle.cfgx_parser.specs.nodes.Prefix.{node_at, prefix, places};
-ghost use Rattle.cfgx_parser.specs.nodes.ReadFrom.{AreRead, inner_node};
-ghost use Rattle.cfgx_parser.specs.nodes.WritesNodes.{NodeHasCut};
 ghost use Rattle.cfg_expr.specs.Deciding.{AreFillings, Decides, IsExactOverAll, held};
 ghost use Rattle.cfg_expr.specs.Evaluation.{AsksInOrder, EvaluatesTo, MayEvaluate};
 ghost use Rattle.cfg_expr.specs.Evaluation.{IsByLaneOverAll, IsValueInLanes};
@@ -59,14 +56,11 @@ impl<'a> Condition<'a> {
         self.original
     }
 
-    /// Returns the nodes of the tree, in source order. There are no more nodes than bytes. The text
-    /// can be cut at their spans, which are those of its tokens, one behind another.
+    /// Returns the nodes of the tree, in source order. There are no more nodes than bytes.
     pub(super) fn nodes(&self) -> &'a [ExprNode]
         ensures nodes { (one : HasOneTree self.now)
             × (map (node_at self.now) result.now ≡ prefix one.tree) }
         ensures few { length result.now ≤ length self.now }
-        ensures cuts { AllByRecursion (NodeHasCut self.now) result.now }
-        ensures read { AreRead self.now (map inner_node result.now) }
     {
         self.nodes
     }

@@ -8,9 +8,3 @@ returns-clause-nodes c =
 
 pub returns-clause-few : goal.returns-clause-few
 returns-clause-few c = rw (← c.self.view_is) (few-nodes c.self.invariant)
-
-pub returns-clause-cuts : goal.returns-clause-cuts
-returns-clause-cuts c = rw (← c.self.view_is) c.self.invariant.keeps.cuts
-
-pub returns-clause-read : goal.returns-clause-read
-returns-clause-read c = rw (← c.self.view_is) c.self.invariant.read
