@@ -230,6 +230,9 @@ impl<A: Allocator> Names<A> {
         requires { IsSorted code_cmp self.now }
         ensures { IsTrue result ↔ Contains self.now (code_of (question_of predicate.now)) }
     {
+        if self.named.is_empty() {
+            return false;
+        }
         let buffer = self.buffer.as_slice();
         let asked = Parts::of(predicate);
         let found = self
