@@ -1,7 +1,10 @@
 -- The pass over the nodes and the places of the predicates give the polar fillings.
 use Rattle.std.proofs.Common.{◌≡◌, ℕ, Bool, true, false, not, List, [], ◌∷◌, ◌++◌, map}
+use Rattle.std.proofs.Common.{◌<◌, length}
 use Rattle.std.proofs.Common.{replicate, Option, None, sym, refl, ap, ◌∙◌, append_assoc, map-id}
-use Rattle.std.proofs.{lemmas.Slice.Zip.AllZip-map, lemmas.List.append-nil, lemmas.List.map-append}
+use Rattle.std.specs.List.{AllByRecursion}
+use Rattle.std.proofs.lemmas.{Slice.Zip.AllZip-map, List.append-nil}
+use Rattle.std.proofs.lemmas.List.{length-map, map-append}
 use Rattle.cfgx_grammar.specs.{Question.Question, Tree.{ListFunction, Tree, Trees, asked, count}}
 use Rattle.cfg_expr.specs.Filling.{filled_by, polar, polarities, polarities_each, three_valued}
 use Rattle.cfg_expr.specs.Fold.{tree_fold}
@@ -9,47 +12,48 @@ use Rattle.cfgx_grammar.proofs.Alike.{Alike, AlikeEach, asked-alike}
 use Rattle.cfg_expr.proofs.SameShapes.{polarities-shape}
 use Rattle.cfgx_parser.specs.nodes.Prefix.{Node, list_func, prefix, prefix_each, places}
 use Rattle.cfgx_parser.specs.nodes.Shape.{Shape, shape, shape_of}
-use Rattle.cfgx_parser.{specs.declared.nodes.ExprNode.ExprNode, proofs.Shapes.places-shape}
+use Rattle.cfgx_parser.proofs.Shapes.{length-shape, places-shape}
+use Rattle.cfgx_parser.specs.declared.nodes.ExprNode.{ExprNode}
 use Rattle.cfg_expr.specs.Deciding.{HoldsFillings, IsDecision}
 use Rattle.cfg_expr.specs.declared.expr.Decision.{Decision}
 use Rattle.cfg_expr.specs.declared.expr.Decision.TheVariants as decision
-use Rattle.cfg_expr.specs.nodes.Parity.{turned, members_of, pass, filled_at}
-use Rattle.cfg_expr.proofs.evaluated.Nodes.{read-mapped}
+use Rattle.cfg_expr.specs.nodes.Parity.{IsPassed, filled_at, members_of, pass, turned}
+use Rattle.cfg_expr.proofs.evaluated.{Nodes.read-mapped, Placed.places-inside}
 
 list_members : (function : ListFunction) (n : ℕ) (odd : Bool)
     → members_of (Shape.function (list_func function n)) odd ≡ replicate n odd
 list_members ListFunction.all n odd = refl
 list_members ListFunction.any n odd = refl
 
-abbrev odd_in : Node Bool → Bool
-odd_in (Node.leaf odd) = odd
-odd_in (Node.literal truth) = false
-odd_in (Node.function func len) = false
+abbrev negated_in : Node Bool → Bool
+negated_in (Node.leaf odd) = odd
+negated_in (Node.literal truth) = false
+negated_in (Node.function func len) = false
 
 module _ {X : Type 0} where
-  abbrev odds : Bool → Tree X → List Bool
-  odds odd tree = map odd_in (prefix (polarities odd tree))
+  abbrev negated : Bool → Tree X → List Bool
+  negated odd tree = map negated_in (prefix (polarities odd tree))
 
-  abbrev odds_each : Bool → Trees X → List Bool
-  odds_each odd trees = map odd_in (prefix_each (polarities_each odd trees))
+  abbrev negated_each : Bool → Trees X → List Bool
+  negated_each odd trees = map negated_in (prefix_each (polarities_each odd trees))
 
   -- over the nodes of a tree, the pass finds the parities of its predicates
   mutual
-    pass-tree : (tree : Tree X) (odd : Bool) (ahead : List Bool) (rest : List Shape)
-        → pass (map shape_of (prefix tree) ++ rest) (odd ∷ ahead)
-        ≡ odds odd tree ++ pass rest ahead
-    pass-tree (Tree.list function trees) odd ahead rest =
-        rw (list_members function (count trees) odd, pass-each trees odd ahead rest) refl
-    pass-tree (Tree.not tree) odd ahead rest = rw (pass-tree tree (not odd) ahead rest) refl
-    pass-tree tree odd ahead rest = refl
+    pass-tree : (tree : Tree X) (odd : Bool) (pending : List Bool) (rest : List Shape)
+        → pass (map shape_of (prefix tree) ++ rest) (odd ∷ pending)
+        ≡ negated odd tree ++ pass rest pending
+    pass-tree (Tree.list function trees) odd pending rest =
+        rw (list_members function (count trees) odd, pass-each trees odd pending rest) refl
+    pass-tree (Tree.not tree) odd pending rest = rw (pass-tree tree (not odd) pending rest) refl
+    pass-tree tree odd pending rest = refl
 
-    pass-each : (trees : Trees X) (odd : Bool) (ahead : List Bool) (rest : List Shape)
-        → pass (map shape_of (prefix_each trees) ++ rest) (replicate (count trees) odd ++ ahead)
-        ≡ odds_each odd trees ++ pass rest ahead
-    pass-each Trees.none odd ahead rest = refl
-    pass-each (Trees.more tree trees) odd ahead rest =
+    pass-each : (trees : Trees X) (odd : Bool) (pending : List Bool) (rest : List Shape)
+        → pass (map shape_of (prefix_each trees) ++ rest) (replicate (count trees) odd ++ pending)
+        ≡ negated_each odd trees ++ pass rest pending
+    pass-each Trees.none odd pending rest = refl
+    pass-each (Trees.more tree trees) odd pending rest =
         rw (map-append shape_of (prefix tree), append_assoc (map shape_of (prefix tree)))
-        (rw (pass-tree tree odd, pass-each trees odd, map-append odd_in, append_assoc) refl)
+        (rw (pass-tree tree odd, pass-each trees odd, map-append negated_in, append_assoc) refl)
 
 -- The polarities for `fill` are those for false, or their opposites if `fill` is true.
 
@@ -77,21 +81,36 @@ module _ (fill : Bool) where
     turned_each-alike odd (Trees.more tree trees) =
         AlikeEach.more _ _ _ _ (turned-alike odd tree) (turned_each-alike odd trees)
 
-pub polar-kept : (nodes : List ExprNode) (tree : Tree Question)
-    → map shape nodes ≡ map shape_of (prefix tree) → (found : List Bool) (asks : List ℕ)
-    (answers : List (Option Bool)) (fill : Bool) → asks ≡ places 0 tree
-    → found ≡ pass (map shape nodes) (false ∷ [])
-    → filled_at found asks answers fill ≡ polar tree answers fill
-polar-kept nodes tree nodes_are found asks answers fill asks_are is =
-    let parities = polarities false tree in
-    let passed : found ≡ odds false tree = is ∙ rw nodes_are
-    (ap (λ l. pass l (false ∷ [])) (sym (append-nil (map shape_of (prefix tree))))
-    ∙ pass-tree tree false [] [] ∙ append-nil (odds false tree)) in
-    let places_are : asks ≡ places 0 parities = asks_are
-    ∙ places-shape tree parities (polarities-shape false tree) in
-    rw (passed, places_are, read-mapped parities odd_in false, map-id) (ap (filled_by answers)
-    (sym (AllZip-map (turned fill) (asked parities) _
-    (asked-alike (Turned fill) parities _ (turned-alike fill false tree)))))
+module _ (nodes : List ExprNode) (tree : Tree Question)
+    (nodes_are : map shape nodes ≡ map shape_of (prefix tree)) where
+  pass-nodes : pass (map shape nodes) (false ∷ []) ≡ negated false tree
+  pass-nodes = rw nodes_are
+      (ap (λ l. pass l (false ∷ [])) (sym (append-nil (map shape_of (prefix tree))))
+      ∙ pass-tree tree false [] [] ∙ append-nil (negated false tree))
+
+  length-negated : length (negated false tree) ≡ length (prefix tree)
+  length-negated = length-map (prefix (polarities false tree)) negated_in
+      ∙ sym (length-shape tree _ (polarities-shape false tree))
+
+  -- the pass of the nodes tells of each
+  pub nodes-passed : IsPassed (map shape nodes) (false ∷ [])
+  nodes-passed = ap length pass-nodes ∙ length-negated
+      ∙ sym (ap length nodes_are ∙ length-map (prefix tree) shape_of)
+
+  module _ (found : List Bool) (asks : List ℕ) (asks_are : asks ≡ places 0 tree)
+      (is : found ≡ pass (map shape nodes) (false ∷ [])) where
+    pub places-passed : AllByRecursion (λ place. place < length found) asks
+    places-passed = rw (asks_are, is, pass-nodes, length-negated) (places-inside tree)
+
+    pub polar-kept : (answers : List (Option Bool)) (fill : Bool)
+        → filled_at found asks answers fill ≡ polar tree answers fill
+    polar-kept answers fill =
+        let parities = polarities false tree in
+        let places_are : asks ≡ places 0 parities = asks_are
+        ∙ places-shape tree parities (polarities-shape false tree) in
+        rw (is, pass-nodes, places_are, read-mapped parities negated_in false, map-id)
+        (ap (filled_by answers) (sym (AllZip-map (turned fill) (asked parities) _
+        (asked-alike (Turned fill) parities _ (turned-alike fill false tree)))))
 
 -- a decision is right if the value is unknown and it holds the polar fillings
 pub IsDecision-unknown : {X A : Type 0} (tree : Tree X) (answers : List (Option Bool))

@@ -43,7 +43,7 @@ impl Func {
     }
 
     /// Returns the number of members.
-    fn members(self) -> usize
+    pub fn members(self) -> usize
         ensures { result ≡ func_members self }
     {
         match self {

@@ -128,7 +128,7 @@ inside-each count (place ∷ ps) [] same = absurd (cc)
 inside-each count (place ∷ ps) (y ∷ ys) same =
     (ltb-true place count (cc), inside-each count ps ys (cc))
 
-places-inside : {X : Type 0} (tree : Tree X)
+pub places-inside : {X : Type 0} (tree : Tree X)
     → AllByRecursion (λ place. place < length (prefix tree)) (places 0 tree)
 places-inside tree =
     let count = length (prefix tree) in

@@ -7,20 +7,21 @@
 //! predicate is below an even number of `not`, and false otherwise. The second filling has the
 //! opposite value.
 //!
-//! One pass over the nodes makes the list `odds`, which says of each node whether it is a predicate
-//! below an odd number of `not`. The stack `ahead` has an entry for each subtree that the pass has
-//! not reached, but whose parent it has reached. The next one is on top. An entry is true if its
-//! subtree is below an odd number of `not`.
+//! One pass over the nodes makes the list `negated`, which says of each node whether it is a
+//! predicate below an odd number of `not`. The stack `pending` has an entry for each subtree that
+//! the pass has not reached, but whose parent it has reached. The next one is on top. An entry is
+//! true if its subtree is below an odd number of `not`.
 //!
 //! Each subtree has a node of its own, so there are never more entries than nodes. Both lists hold
 //! 33 entries inline, so up to 33 nodes take no memory.
-ghost use Rattle.std.specs.Prelude.{◌≡◌, ◌≤◌, ◌++◌, ◌∷◌, true, false, length, map};
-ghost use Rattle.std.specs.Prelude.{replicate, reverse, List, OnErr, OnOk, vec_capacity};
+ghost use Rattle.std.specs.Prelude.{◌≡◌, ◌≤◌, ◌<◌, ◌+◌, ◌++◌, ◌∷◌, true, false, length};
+ghost use Rattle.std.specs.Prelude.{map, replicate, reverse, List, OnErr, OnOk, vec_capacity};
+ghost use Rattle.std.specs.List.{AllByRecursion};
 ghost use Rattle.cfg_expr.specs.Given.{AreAnswersTo};
 ghost use Rattle.cfgx_grammar.specs.Answer.{HasOneTree};
 ghost use Rattle.cfgx_parser.specs.nodes.Shape.{Shape, shape};
 ghost use Rattle.cfg_expr.specs.Deciding.{HoldsFillings, IsDecision, held};
-ghost use Rattle.cfg_expr.specs.nodes.Parity.{arity, filled_at, pass};
+ghost use Rattle.cfg_expr.specs.nodes.Parity.{IsPassed, filled_at, pass};
 
 use super::{Condition, Decision, Func, evaluating};
 use crate::memory::SmallAllocator;
@@ -28,71 +29,62 @@ use cfgx_parser::nodes::ExprNode;
 use smallvec::SmallVec;
 use std::alloc::{AllocError, Allocator};
 
-/// Returns the number of members of a function.
-fn arity(func: &Func) -> usize
-    ensures { result ≡ arity func.now }
-{
-    match func {
-        Func::Not => 1,
-        Func::All(count) | Func::Any(count) => *count,
-    }
-}
-
-/// Pushes `count` copies of `odd` to `ahead`.
+/// Pushes `count` copies of `is_negated` to `pending`.
 fn push_repeated<A: SmallAllocator>(
-    odd: bool,
+    is_negated: bool,
     count: usize,
-    ahead: &mut SmallVec<bool, 33, &A>,
+    pending: &mut SmallVec<bool, 33, &A>,
 ) -> Result<(), AllocError>
     ensures { OnOk result
-        (reverse ahead.new.items ≡ replicate count odd ++ reverse ahead.old.items) }
+        (reverse pending.new.items ≡ replicate count is_negated ++ reverse pending.old.items) }
 {
     for _member in 0..count {
-        ahead.push(odd)?;
+        pending.push(is_negated)?;
     }
     Ok(())
 }
 
-/// Pops the entry of `node` from `ahead`, and pushes one for each of its members. Pushes to `odds`
-/// whether `node` is a predicate below an odd number of `not`. Does nothing if `ahead` is empty,
-/// which it never is before a node of a condition.
-fn push_odd<A: SmallAllocator>(
+/// Pops the entry of `node` from `pending`, and pushes one for each of its members. Pushes to
+/// `negated` whether `node` is a predicate below an odd number of `not`.
+fn pass_node<A: SmallAllocator>(
     node: &ExprNode,
-    ahead: &mut SmallVec<bool, 33, &A>,
-    odds: &mut SmallVec<bool, 33, &A>,
+    pending: &mut SmallVec<bool, 33, &A>,
+    negated: &mut SmallVec<bool, 33, &A>,
 ) -> Result<(), AllocError>
-    ensures { OnOk result ((rest : List Shape)
-        → odds.new.items ++ pass rest (reverse ahead.new.items)
-        ≡ odds.old.items ++ pass (shape node.now ∷ rest) (reverse ahead.old.items)) }
+    requires { 0 < length pending.old.items }
+    ensures one { OnOk result (length negated.new.items ≡ length negated.old.items + 1) }
+    ensures pass { OnOk result ((rest : List Shape)
+        → negated.new.items ++ pass rest (reverse pending.new.items)
+        ≡ negated.old.items ++ pass (shape node.now ∷ rest) (reverse pending.old.items)) }
 {
-    if let Some(odd) = ahead.pop() {
-        match node {
-            ExprNode::Fn { func, .. } => {
-                odds.push(false)?;
-                let is_not = matches!(func, Func::Not);
-                push_repeated(odd != is_not, arity(func), ahead)?;
-            }
-            ExprNode::Predicate(_) => odds.push(odd)?,
-            ExprNode::Literal(_) => odds.push(false)?,
+    let is_negated = pending.pop().unwrap();
+    match node {
+        ExprNode::Fn { func, .. } => {
+            negated.push(false)?;
+            let is_not = matches!(func, Func::Not);
+            push_repeated(is_negated != is_not, func.members(), pending)?;
         }
+        ExprNode::Predicate(_) => negated.push(is_negated)?,
+        ExprNode::Literal(_) => negated.push(false)?,
     }
     Ok(())
 }
 
-/// Pushes to `odds`, for each node, whether it is a predicate below an odd number of `not`. `ahead`
-/// is the stack of the pass, which begins empty.
-fn push_odds<A: SmallAllocator>(
+/// Pushes to `negated`, for each node, whether it is a predicate below an odd number of `not`.
+/// `pending` is the stack of the pass, which begins empty.
+fn pass_nodes<A: SmallAllocator>(
     nodes: &[ExprNode],
-    ahead: &mut SmallVec<bool, 33, &A>,
-    odds: &mut SmallVec<bool, 33, &A>,
+    pending: &mut SmallVec<bool, 33, &A>,
+    negated: &mut SmallVec<bool, 33, &A>,
 ) -> Result<(), AllocError>
-    ensures { OnOk result (odds.new.items
-        ≡ odds.old.items ++ pass (map shape nodes.now) (false ∷ reverse ahead.old.items)) }
+    requires { IsPassed (map shape nodes.now) (false ∷ reverse pending.old.items) }
+    ensures { OnOk result (negated.new.items
+        ≡ negated.old.items ++ pass (map shape nodes.now) (false ∷ reverse pending.old.items)) }
 {
-    odds.reserve(nodes.len())?;
-    ahead.push(false)?;
+    negated.reserve(nodes.len())?;
+    pending.push(false)?;
     for node in nodes {
-        push_odd(node, ahead, odds)?;
+        pass_node(node, pending, negated)?;
     }
     Ok(())
 }
@@ -106,22 +98,23 @@ fn reserve_in_all<A: Allocator>(filling: &mut Vec<bool, A>, count: usize) -> Res
 }
 
 /// Replaces the items of `if_true` and `if_false` by the two fillings of `answers`. `places` has,
-/// for each answer, the place of its predicate among the nodes. `odds` says of each node whether it
-/// is a predicate below an odd number of `not`.
+/// for each answer, the place of its predicate among the nodes. `negated` says of each node whether
+/// it is a predicate below an odd number of `not`.
 ///
 /// Room is made before anything is cleared. So both keep their items if `alloc` refuses memory.
 fn fill<A: SmallAllocator>(
     if_true: &mut Vec<bool, A>,
     if_false: &mut Vec<bool, A>,
-    odds: &[bool],
+    negated: &[bool],
     places: &[usize],
     answers: &[Option<bool>],
 ) -> Result<(), AllocError>
-    requires { length places.now ≡ length answers.now }
+    requires count { length places.now ≡ length answers.now }
+    requires inside { AllByRecursion (λ place. place < length negated.now) places.now }
     ensures if_true { OnOk result
-        (if_true.new.items ≡ filled_at odds.now places.now answers.now true) }
+        (if_true.new.items ≡ filled_at negated.now places.now answers.now true) }
     ensures if_false { OnOk result
-        (if_false.new.items ≡ filled_at odds.now places.now answers.now false) }
+        (if_false.new.items ≡ filled_at negated.now places.now answers.now false) }
     ensures refused { OnErr result
         ((if_true.new.items ≡ if_true.old.items) × (if_false.new.items ≡ if_false.old.items)) }
 {
@@ -130,9 +123,9 @@ fn fill<A: SmallAllocator>(
     if_true.clear();
     if_false.clear();
     for (place, answer) in places.iter().zip(answers) {
-        let odd = odds.get(*place).copied().unwrap_or(false);
-        if_true.push_reserved(answer.unwrap_or(!odd));
-        if_false.push_reserved(answer.unwrap_or(odd));
+        let is_negated = negated[*place];
+        if_true.push_reserved(answer.unwrap_or(!is_negated));
+        if_false.push_reserved(answer.unwrap_or(is_negated));
     }
     Ok(())
 }
@@ -142,22 +135,23 @@ fn fill<A: SmallAllocator>(
 fn set_unknown<A: SmallAllocator>(
     alloc: A,
     decision: &mut Decision<A>,
-    odds: &[bool],
+    negated: &[bool],
     places: &[usize],
     answers: &[Option<bool>],
 ) -> Result<(), AllocError>
-    requires { length places.now ≡ length answers.now }
+    requires count { length places.now ≡ length answers.now }
+    requires inside { AllByRecursion (λ place. place < length negated.now) places.now }
     ensures unknown { OnOk result (HoldsFillings decision.new
-        (filled_at odds.now places.now answers.now true)
-        (filled_at odds.now places.now answers.now false)) }
+        (filled_at negated.now places.now answers.now true)
+        (filled_at negated.now places.now answers.now false)) }
     ensures refused { OnErr result (held decision.new ≡ held decision.old) }
 {
     if let Decision::Unknown { if_true, if_false } = decision {
-        return fill(if_true, if_false, odds, places, answers);
+        return fill(if_true, if_false, negated, places, answers);
     }
     let mut if_true = Vec::new(alloc);
     let mut if_false = Vec::new(alloc);
-    fill(&mut if_true, &mut if_false, odds, places, answers)?;
+    fill(&mut if_true, &mut if_false, negated, places, answers)?;
     *decision = Decision::Unknown { if_true, if_false };
     Ok(())
 }
@@ -182,9 +176,9 @@ pub(crate) fn decide<A: SmallAllocator>(
         *decision = Decision::Known(value);
         return Ok(());
     }
-    let mut ahead = SmallVec::new(&alloc);
-    let mut odds = SmallVec::new(&alloc);
-    push_odds(condition.nodes(), &mut ahead, &mut odds)?;
+    let mut pending = SmallVec::new(&alloc);
+    let mut negated = SmallVec::new(&alloc);
+    pass_nodes(condition.nodes(), &mut pending, &mut negated)?;
     let places = condition.places();
-    set_unknown(alloc, decision, odds.as_slice(), places, answers)
+    set_unknown(alloc, decision, negated.as_slice(), places, answers)
 }
