@@ -227,7 +227,7 @@ where
 }
 
 /// A function that has begun and not ended.
-#[derive(Clone, Copy, Debug)]
+#[derive(Clone, Copy, Default)]
 pub(crate) struct Open {
     step: Step,
     /// The number of its members that have not ended
@@ -240,9 +240,9 @@ pub(crate) struct Open {
 #[derive(Drop)]
 pub(crate) struct Writer<A: SmallAllocator> {
     /// The functions that have begun and not ended, the innermost one last
-    begun: Vec<Open, A>,
+    begun: SmallVec<Open, 2, A>,
     /// The steps of the leaves of these functions, which come after those of member functions
-    leaves: Vec<Step, A>,
+    leaves: SmallVec<Step, 4, A>,
     /// The other steps
     steps: Vec<Step, A>,
 }
@@ -256,7 +256,8 @@ impl<A: SmallAllocator> Writer<A> {
             ≡ self.old.steps.items ++ drop count self.old.leaves.items) }
     {
         let begin = count.min(self.leaves.len());
-        self.steps.extend_from_slice(&self.leaves[begin..])?;
+        self.steps
+            .extend_from_slice(&self.leaves.as_slice()[begin..])?;
         self.leaves.truncate(begin);
         Ok(())
     }
@@ -345,8 +346,8 @@ pub fn steps_of<A: SmallAllocator>(
 {
     let nodes = condition.nodes();
     let mut writer = Writer {
-        begun: Vec::new(alloc),
-        leaves: Vec::new(alloc),
+        begun: SmallVec::new(alloc),
+        leaves: SmallVec::new(alloc),
         steps: Vec::with_capacity(alloc, nodes.len())?,
     };
     writer.write_nodes(nodes)?;
