@@ -226,13 +226,19 @@ impl<A: Allocator> Names<A> {
     }
 
     /// Whether `predicate` is among those that are sorted.
+    #[inline(always)]
     pub(super) fn has(&self, predicate: &Predicate<'_>) -> bool
         requires { IsSorted code_cmp self.now }
         ensures { IsTrue result ↔ Contains self.now (code_of (question_of predicate.now)) }
     {
-        if self.named.is_empty() {
-            return false;
-        }
+        !self.named.is_empty() && self.finds(predicate)
+    }
+
+    /// Searches `predicate` among those that are sorted, by halving.
+    fn finds(&self, predicate: &Predicate<'_>) -> bool
+        requires { IsSorted code_cmp self.now }
+        ensures { IsTrue result ↔ Contains self.now (code_of (question_of predicate.now)) }
+    {
         let buffer = self.buffer.as_slice();
         let asked = Parts::of(predicate);
         let found = self

@@ -3,7 +3,7 @@ use Rattle.std.proofs.lemmas.Fn.{always_returns_same}
 use Rattle.cfg_expr.specs.Predicate.{question_of}
 use Rattle.cfgx_engine.specs.internal.Names.{code_at, code_cmp, code_of}
 use Rattle.cfgx_engine.proofs.NameLemmas.{found}
-use Rattle.cfgx_engine.proofs.resolve.names.Names.has.Goals as goal
+use Rattle.cfgx_engine.proofs.resolve.names.Names.finds.Goals as goal
 
 -- the closure compares each code with that of the predicate
 pub returns : goal.returns
