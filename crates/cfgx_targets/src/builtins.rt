@@ -1,7 +1,8 @@
 //! The named lists, the built-in targets, and a fixed version.
 
-ghost use Rattle.std.specs.Prelude.{◌≡◌, ◌∷◌, ◌++◌, [], IfOk, OnOk, codes, option_copied};
+ghost use Rattle.std.specs.Prelude.{◌≡◌, ◌∷◌, [], IfOk, OnOk, codes, option_copied};
 ghost use Rattle.cfgx_targets.specs.Builtins.{apple_row, builtin_rows, widths_and_pointer};
+ghost use Rattle.cfgx_targets.specs.Table.{row_with};
 
 use crate::info::TargetInfo;
 use crate::list::SortedList;
@@ -135,72 +136,110 @@ impl<'a, A: Allocator + Copy> TargetTable<'a, A> {
     }
 }
 
-// The triples of the built-in targets, in order.
-const DARWIN: &str = "aarch64-apple-darwin";
+// What tells a built-in target from the others. All are targets of Apple.
+#[derive(Clone, Copy)]
+struct Apple {
+    triple: &'static str,
+    os: &'static str,
+    // Both its ABI and its environment.
+    variant: Option<&'static str>,
+}
 
-const IOS: &str = "aarch64-apple-ios";
+// The built-in targets, in the order of their triples.
+const DARWIN: Apple = Apple {
+    triple: "aarch64-apple-darwin",
+    os: "macos",
+    variant: None,
+};
 
-const MACABI: &str = "aarch64-apple-ios-macabi";
+const IOS: Apple = Apple {
+    triple: "aarch64-apple-ios",
+    os: "ios",
+    variant: None,
+};
 
-const SIM: &str = "aarch64-apple-ios-sim";
+const MACABI: Apple = Apple {
+    triple: "aarch64-apple-ios-macabi",
+    os: "ios",
+    variant: Some("macabi"),
+};
 
-const TVOS: &str = "aarch64-apple-tvos";
+const SIM: Apple = Apple {
+    triple: "aarch64-apple-ios-sim",
+    os: "ios",
+    variant: Some("sim"),
+};
+
+const TVOS: Apple = Apple {
+    triple: "aarch64-apple-tvos",
+    os: "tvos",
+    variant: None,
+};
+
+/// Returns the row of the built-in target with `triple`, in memory of `alloc`, or `None` if no
+/// built-in target has it. Makes no other row.
+///
+/// Returns an error if `alloc` refuses it.
+pub fn builtin<'a, A: Allocator + Copy>(
+    alloc: A,
+    triple: &str,
+) -> Result<Option<TargetInfo<'a, A>>, AllocError>
+    ensures { IfOk result (λ found. found ≡ row_with triple.now builtin_rows) }
+{
+    let apple = match triple {
+        _ if DARWIN.triple == triple => DARWIN,
+        _ if IOS.triple == triple => IOS,
+        _ if MACABI.triple == triple => MACABI,
+        _ if SIM.triple == triple => SIM,
+        _ if TVOS.triple == triple => TVOS,
+        _ => return Ok(None),
+    };
+    Ok(Some(row_of(alloc, apple)?))
+}
 
 // Returns the rows of the built-in targets.
 fn rows<'a, A: Allocator + Copy>(alloc: A) -> Result<Vec<TargetInfo<'a, A>, A>, AllocError>
     ensures { IfOk result (λ rows. rows.items ≡ builtin_rows) }
 {
     let mut rows = Vec::with_capacity(alloc, 5)?;
-    push_rows(&mut rows, alloc)?;
+    push_rows(alloc, &mut rows)?;
     Ok(rows)
 }
 
 // Pushes the rows of the built-in targets onto `rows`, which is empty.
 fn push_rows<'a, A: Allocator + Copy>(
-    rows: &mut Vec<TargetInfo<'a, A>, A>,
     alloc: A,
+    rows: &mut Vec<TargetInfo<'a, A>, A>,
 ) -> Result<(), AllocError>
     requires { rows.old.items ≡ [] }
     ensures { OnOk result (rows.new.items ≡ builtin_rows) }
 {
-    push_apple(rows, alloc, DARWIN, "macos", None)?;
-    push_apple(rows, alloc, IOS, "ios", None)?;
-    push_apple(rows, alloc, MACABI, "ios", Some("macabi"))?;
-    push_apple(rows, alloc, SIM, "ios", Some("sim"))?;
-    push_apple(rows, alloc, TVOS, "tvos", None)
+    for apple in [DARWIN, IOS, MACABI, SIM, TVOS] {
+        rows.push(row_of(alloc, apple)?)?;
+    }
+    Ok(())
 }
 
-// Pushes a target of Apple with the triple and the operating system. `variant` is both its ABI and
-// its environment.
-fn push_apple<'a, A: Allocator + Copy>(
-    rows: &mut Vec<TargetInfo<'a, A>, A>,
-    alloc: A,
-    triple: &'a str,
-    os: &'a str,
-    variant: Option<&'a str>,
-) -> Result<(), AllocError>
-    ensures { OnOk result (rows.new.items ≡ rows.old.items ++ apple_row
-        triple.now os.now (option_copied variant.entry) (option_copied variant.entry) ∷ []) }
+// Returns the row of a built-in target.
+fn row_of<'a, A: Allocator + Copy>(alloc: A, apple: Apple) -> Result<TargetInfo<'a, A>, AllocError>
+    ensures { IfOk result (λ row. row ≡ apple_row apple.triple.now apple.os.now
+        (option_copied apple.variant) (option_copied apple.variant)) }
 {
-    let families = SortedList::unix(alloc)?;
-    let has_atomics = SortedList::atomic_8_16_32_64_128_ptr(alloc)?;
-    let (abi, env) = match variant {
+    let (abi, env) = match apple.variant {
         Some(name) => (Some(Abi::new_const(name)), Some(Env::new_const(name))),
         None => (None, None),
     };
-    let row = TargetInfo {
-        triple: Triple::new_const(triple),
-        os: Some(Os::new_const(os)),
+    Ok(TargetInfo {
+        triple: Triple::new_const(apple.triple),
+        os: Some(Os::new_const(apple.os)),
         abi,
         arch: Arch::aarch64(),
         env,
         vendor: Some(Vendor::apple()),
-        families,
+        families: SortedList::unix(alloc)?,
         pointer_width: 64,
         endian: Endian::little,
-        has_atomics,
+        has_atomics: SortedList::atomic_8_16_32_64_128_ptr(alloc)?,
         panic: Panic::unwind(),
-    };
-    rows.push(row)?;
-    Ok(())
+    })
 }
