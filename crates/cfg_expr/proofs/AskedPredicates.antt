@@ -8,6 +8,7 @@ use Rattle.cfgx_parser.{specs.declared.nodes.ExprNode.ExprNode, proofs.Places.re
 use Rattle.cfgx_parser.specs.nodes.Prefix.{Node, node_at}
 use Rattle.cfgx_parser.specs.nodes.KeepsTree.{KeepsTree, predicate_at, questions_at}
 use Rattle.cfgx_parser.specs.nodes.KeepsTree.{NamesPredicate, NamePredicates}
+use Rattle.cfgx_parser.specs.declared.nodes.Located.{Located}
 use Rattle.cfgx_parser.specs.declared.nodes.ExprNode.TheVariants as node
 
 -- what is asked at a place
@@ -48,12 +49,13 @@ NamePredicates-asks text nodes (place ∷ asks) (question ∷ questions) cuts e 
     (NamesPredicate-found text nodes place question cuts (cc), rest)
 NamePredicates-asks text nodes (place ∷ asks) [] cuts e = absurd (cc)
 
--- one question for each place
-pub length-questions_at : (text : List ℕ) (nodes : List ExprNode) (asks : List ℕ)
-    → NamePredicates text nodes asks → length (questions_at text nodes asks) ≡ length asks
-length-questions_at text nodes [] names = refl
-length-questions_at text nodes (place ∷ asks) names =
-    rw names.0.stands (ap suc (length-questions_at text nodes asks names.1))
+-- one item for each place
+pub length-named : {X : Type 0} (f : Located → X) (text : List ℕ) (nodes : List ExprNode)
+    (asks : List ℕ) → NamePredicates text nodes asks
+    → length (filter_map (λ place. option_map f (predicate_at nodes place)) asks) ≡ length asks
+length-named f text nodes [] names = refl
+length-named f text nodes (place ∷ asks) names =
+    rw names.0.stands (ap suc (length-named f text nodes asks names.1))
 
 module _ {text : List ℕ} {nodes : List ExprNode} {asks : List ℕ} {tree : Tree Question}
     (k : KeepsTree text nodes asks tree) where

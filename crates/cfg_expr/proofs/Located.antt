@@ -12,14 +12,13 @@ use Rattle.cfgx_parser.proofs.Places.{read-places}
 use Rattle.cfgx_parser.proofs.Shapes.{places-shape}
 use Rattle.cfgx_parser.specs.nodes.KeepsTree.{KeepsOneTree, NamePredicates, predicate_at}
 use Rattle.cfgx_parser.specs.nodes.KeepsTree.{questions_at}
-use Rattle.cfgx_parser.specs.nodes.Located.{HasCut, at, question_at}
+use Rattle.cfgx_parser.specs.nodes.Located.{HasCut, question_at}
 use Rattle.cfgx_parser.specs.nodes.Prefix.{Node, node_at, node_map, places, prefix, prefix_each}
 use Rattle.cfgx_parser.specs.nodes.ReadFrom.{inner_node}
 use Rattle.cfgx_parser.specs.declared.nodes.ExprNode.{ExprNode}
 use Rattle.cfgx_parser.specs.declared.nodes.Located.{Located}
-use Rattle.cfg_expr.specs.Located.{AreLocated, CanBeCut, Locates, key_span, key_text}
-use Rattle.cfg_expr.specs.Located.{located_at, number_of, of_node, value_span, value_text}
-use Rattle.cfgx_parser.specs.Kinds.{kind_of}
+use Rattle.cfg_expr.specs.Located.{AreLocated, Locates}
+use Rattle.cfg_expr.specs.Located.{located_at, of_node}
 
 -- Nodes whose images are those of a tree are those of a tree.
 
@@ -99,7 +98,8 @@ map-some : {X Y : Type 0} (f : X → Y) (xs : List X)
 map-some f [] = refl
 map-some f (x ∷ xs) = ap (λ l. Some (f x) ∷ l) (map-some f xs)
 
-listed_all : (nodes : List ExprNode) (located : Tree Located) → prefix located ≡ map inner_node nodes
+listed_all : (nodes : List ExprNode) (located : Tree Located)
+    → prefix located ≡ map inner_node nodes
     → located_at nodes (places 0 located) ≡ map of_node (asked located)
 listed_all nodes located is =
     let reads = read-places located (λ place. option_map of_node (predicate_at nodes place))
@@ -107,36 +107,13 @@ listed_all nodes located is =
     (predicate_at-leaf nodes place inner (rw is at leaf))) in
     filter_map-some _ (places 0 located) _ (reads ∙ map-some of_node (asked located))
 
--- the parts of a predicate, and where they stand
-
-key_same : (text : List ℕ) (p : Located)
-    → option_map (at text) (key_span p.key p.asked) ≡ key_text (question_at text p)
-key_same text p = grind arith
-
-value_same : (text : List ℕ) (p : Located)
-    → option_map (at text) (value_span p.value p.asked) ≡ value_text (question_at text p)
-value_same text p = grind arith
-
-key_cut : (text : List ℕ) (p : Located) → HasCut text p → CanBeCut text (key_span p.key p.asked)
-key_cut text p cut = grind arith
-
-value_cut : (text : List ℕ) (p : Located) → HasCut text p
-    → CanBeCut text (value_span p.value p.asked)
-value_cut text p cut = grind arith
-
-kind_same : (text : List ℕ) (p : Located) → (of_node p).kind ≡ kind_of (question_at text p)
-kind_same text p = grind arith
-
-number_same : (text : List ℕ) (p : Located) → (of_node p).number ≡ number_of (question_at text p)
-number_same text p = grind arith
-
 Locates-of : (text : List ℕ) (p : Located) → HasCut text p
     → Locates text (question_at text p) (of_node p)
 Locates-of text p cut = record {
-  kind = kind_same text p;
-  number = number_same text p;
-  key = record { cut = key_cut text p cut; are = key_same text p };
-  value = record { cut = value_cut text p cut; are = value_same text p };
+  kind = grind arith;
+  number = grind arith;
+  key = record { cut = grind arith; are = grind arith };
+  value = record { cut = grind arith; are = grind arith };
 }
 
 listed_each : (text : List ℕ) (nodes : List ExprNode) (asks : List ℕ)
@@ -145,13 +122,6 @@ listed_each : (text : List ℕ) (nodes : List ExprNode) (asks : List ℕ)
 listed_each text nodes [] names = tt
 listed_each text nodes (place ∷ asks) names = rw names.0.stands
     (Locates-of text names.0.predicate names.0.cut, listed_each text nodes asks names.1)
-
--- one predicate for each place
-pub length-located_at : (text : List ℕ) (nodes : List ExprNode) (asks : List ℕ)
-    → NamePredicates text nodes asks → length (located_at nodes asks) ≡ length asks
-length-located_at text nodes [] names = refl
-length-located_at text nodes (place ∷ asks) names =
-    rw names.0.stands (ap suc (length-located_at text nodes asks names.1))
 
 pub AreLocated-kept : (text : List ℕ) (nodes : List ExprNode) (asks : List ℕ)
     → KeepsOneTree text nodes asks → AreLocated text (located_at nodes asks)

@@ -1,10 +1,12 @@
 -- Each place names a predicate.
 use Rattle.std.proofs.Common.{sym, ap, ◌∙◌, length}
-use Rattle.cfg_expr.proofs.Located.{length-located_at}
+use Rattle.cfg_expr.proofs.AskedPredicates.{length-named}
+use Rattle.cfg_expr.specs.Located.{of_node}
 use Rattle.cfg_expr.proofs.expr.located.LocatedPredicates.left.Goals as goal
 
 pub returns : goal.returns
 returns c =
     let inside = c.self.inside in
     let (text, names, fits) = c.self.invariant in
-    sym (length-located_at text inside.nodes.now inside.places.now names) ∙ ap length c.self.view_is
+    sym (length-named of_node text inside.nodes.now inside.places.now names)
+    ∙ ap length c.self.view_is
