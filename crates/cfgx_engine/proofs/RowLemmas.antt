@@ -33,11 +33,11 @@ find-map f test (x ∷ xs) = let rest = find-map f test xs in grind arith
 
 -- the row that is found is the built-in one with this triple, over `Global`
 pub builtin-same : {A : Type 0} (triple : List ℕ) (found : Option (TargetInfo A))
-    {rows : List (TargetInfo A)} → rows ≡ builtin_rows → found ≡ row_with triple rows
+    → found ≡ row_with triple builtin_rows
     → row_with {A = Global} triple builtin_rows ≡ option_map (same_row {A = A}) found
-builtin-same {A} triple found are is =
+builtin-same {A} triple found is =
     find-map (same_row {A = A}) (λ row. bytes_eq row.triple triple) builtin_rows
-    ∙ ap (option_map (same_row {A = A})) (sym (is ∙ ap (row_with triple) are))
+    ∙ ap (option_map (same_row {A = A})) (sym is)
 
 -- a row answers as the same row over `Global`
 meets-same : {A : Type 0} (row : TargetInfo A) (question : TargetQuestion)

@@ -20,7 +20,8 @@ use cfg_expr::Expression;
 use cfg_expr::error::Failure;
 use cfg_expr::expr::ConditionReader;
 use cfg_expr::memory::SmallAllocator;
-use cfg_expr::targets::{TargetInfo, TargetTable, get_builtin_target_by_triple};
+use cfg_expr::targets::TargetInfo;
+use cfg_expr::targets::builtins::builtin;
 use std::alloc::{AllocError, Allocator};
 use std::borrow::CowSlice;
 
@@ -136,11 +137,10 @@ fn target_output<A: SmallAllocator>(
     ensures { IfOk result (λ output.
         Prints (Request.target triple.now text.now) [] (output_view output)) }
 {
-    let table = TargetTable::builtins(alloc)?;
-    match get_builtin_target_by_triple(&table, triple) {
-        Some(row) => result_output(alloc, parse_and_eval(alloc, row, text)),
-        None => Ok(Output::constant(UNKNOWN_TRIPLE, NOT_KNOWN)),
-    }
+    let Some(row) = builtin(alloc, triple)? else {
+        return Ok(Output::constant(UNKNOWN_TRIPLE, NOT_KNOWN));
+    };
+    result_output(alloc, parse_and_eval(alloc, &row, text))
 }
 
 /// Parses `text` and evaluates it on the target in `row`.
@@ -169,12 +169,11 @@ fn pick_output<A: SmallAllocator, R: Source>(
     ensures front { ReadsFront (R.unread reader.old) (R.unread reader.new) }
     ensures others { ¬ TakesInput (Request.pick triple.now) → reader.new ≡ reader.old }
 {
-    let table = TargetTable::builtins(alloc)?;
-    let Some(row) = get_builtin_target_by_triple(&table, triple) else {
+    let Some(row) = builtin(alloc, triple)? else {
         return Ok(Output::constant(UNKNOWN_TRIPLE, NOT_KNOWN));
     };
     let input = read_input(alloc, reader)?;
-    Ok(input_output(alloc, row, input)?)
+    Ok(input_output(alloc, &row, input)?)
 }
 
 /// Returns the output of `pick` for an input that was read.

@@ -1,6 +1,6 @@
 // Reads the input of the command `pick` line by line, and makes the output.
 
-ghost use Rattle.std.specs.Prelude.{◌≡◌, ◌≤◌, ◌++◌, Err, IfErr, IfOk, OnOk, length, map};
+ghost use Rattle.std.specs.Prelude.{◌≡◌, ◌≤◌, ◌++◌, [], Err, IfErr, IfOk, OnOk, length, map};
 ghost use Rattle.std.specs.Prelude.{IsSomeAnd, string_bytes};
 ghost use Rattle.std.specs.List.{position_or_len};
 ghost use Rattle.std.specs.Str.Lines.{strip_carriage_return};
@@ -61,9 +61,7 @@ pub(super) fn sections_output<A: SmallAllocator>(
     ensures { IfOk result (λ output.
         PrintsLines (answer_on row.now) (map line_of (lines_of text.now)) (output_view output)) }
 {
-    let mut reader = ConditionReader::new(alloc);
-    let mut decider = Decider::new(alloc);
-    match print_lines(alloc, row, text, &mut reader, &mut decider) {
+    match print_lines(alloc, row, text) {
         Ok(printed) => Ok(Output::done(printed)),
         Err(LineError::Faulty(message)) => Ok(Output::faulty(message)),
         Err(LineError::Memory(error)) => Err(error),
@@ -71,12 +69,10 @@ pub(super) fn sections_output<A: SmallAllocator>(
 }
 
 /// Returns the output of the lines of `text`, one after another.
-fn print_lines<'a, A: SmallAllocator>(
+fn print_lines<A: SmallAllocator>(
     alloc: A,
     row: &TargetInfo<'_, A>,
-    text: &'a str,
-    reader: &mut ConditionReader<'a, A>,
-    decider: &mut Decider<A>,
+    text: &str,
 ) -> Result<Vec<u8, A>, LineError<A>>
     requires { length text.now ≤ input_limit }
     ensures ok { IfOk result (λ printed. PrintsLines (answer_on row.now)
@@ -84,14 +80,14 @@ fn print_lines<'a, A: SmallAllocator>(
     ensures err { IfErr result (IfMessage (λ message. PrintsLines (answer_on row.now)
         (map line_of (lines_of text.now)) (faulty_output message))) }
 {
-    let mut printed = Vec::new(alloc);
+    let mut reader = ConditionReader::new(alloc);
+    let mut printer = SectionPrinter::new(alloc, row);
     let mut number = 0;
     for line in text.split('\n') {
         number += 1;
-        let line = split_line(without_return(line));
-        push_line(alloc, row, number, line, reader, decider, &mut printed)?;
+        printer.push_line(number, split_line(without_return(line)), &mut reader)?;
     }
-    Ok(printed)
+    Ok(printer.into_printed())
 }
 
 /// Returns `line` without the carriage return that it may end with.
@@ -135,37 +131,80 @@ fn name_len(bytes: &[u8]) -> usize
     len
 }
 
-/// Pushes the output of `line` to `printed`. `number` is the number of the line.
-fn push_line<'a, A: SmallAllocator>(
+/// Prints sections one after another, with the verdict of a target on each.
+#[derive(Drop)]
+struct SectionPrinter<'t, A: SmallAllocator> {
     alloc: A,
-    row: &TargetInfo<'_, A>,
-    number: usize,
-    line: Line<'a>,
-    reader: &mut ConditionReader<'a, A>,
-    decider: &mut Decider<A>,
-    printed: &mut Vec<u8, A>,
-) -> Result<(), LineError<A>>
-    ensures ok { OnOk result (AddsLine (answer_on row.now) number (line_view line.entry)
-        printed.old.items printed.new.items) }
-    ensures err { IfErr result (IfMessage (λ message.
-        PrintsLine (answer_on row.now) (number, line_view line.entry) (Err message))) }
-{
-    match line {
-        Line::Empty => Ok(()),
-        Line::Undivided => {
-            let message = format!(in alloc; "line {number}: no tab\n")?;
-            Err(LineError::Faulty(message))
+    row: &'t TargetInfo<'t, A>,
+    decider: Decider<A>,
+    /// What is printed so far
+    printed: Vec<u8, A>,
+}
+
+impl<'t, A: SmallAllocator> SectionPrinter<'t, A> {
+    /// Makes a printer for the target `row` that has printed nothing. Takes no memory.
+    fn new(alloc: A, row: &'t TargetInfo<'t, A>) -> Self
+        ensures row { result.row.now ≡ row.now }
+        ensures printed { result.printed.items ≡ [] }
+    {
+        SectionPrinter {
+            alloc,
+            row,
+            decider: Decider::new(alloc),
+            printed: Vec::new(alloc),
         }
-        Line::Section { name, condition } => match reader.read(condition) {
-            Ok(condition) => {
-                push_section(row, name, &condition, decider, printed)?;
-                Ok(())
-            }
-            Err(failure) => {
-                let message = fault_message(alloc, number, failure)?;
+    }
+
+    /// Pushes the output of `line`, which has the number `number`.
+    fn push_line<'a>(
+        &mut self,
+        number: usize,
+        line: Line<'a>,
+        reader: &mut ConditionReader<'a, A>,
+    ) -> Result<(), LineError<A>>
+        ensures ok { OnOk result (AddsLine (answer_on self.old.row.now) number
+            (line_view line.entry) self.old.printed.items self.new.printed.items) }
+        ensures err { IfErr result (IfMessage (λ message. PrintsLine
+            (answer_on self.old.row.now) (number, line_view line.entry) (Err message))) }
+        ensures row { self.new.row.now ≡ self.old.row.now }
+    {
+        match line {
+            Line::Empty => Ok(()),
+            Line::Undivided => {
+                let message = format!(in self.alloc; "line {number}: no tab\n")?;
                 Err(LineError::Faulty(message))
             }
-        },
+            Line::Section { name, condition } => match reader.read(condition) {
+                Ok(condition) => Ok(self.push_section(name, &condition)?),
+                Err(failure) => {
+                    let message = fault_message(self.alloc, number, failure)?;
+                    Err(LineError::Faulty(message))
+                }
+            },
+        }
+    }
+
+    /// Pushes the name of a section and the verdict of the target on its condition.
+    fn push_section(&mut self, name: &str, condition: &Condition<'_>) -> Result<(), AllocError>
+        ensures adds { OnOk result (AddsVerdict self.old.row.now condition.now
+            (self.old.printed.items ++ name.now) self.new.printed.items) }
+        ensures row { self.new.row.now ≡ self.old.row.now }
+    {
+        self.decider.decide(condition, self.row)?;
+        self.printed.extend_from_slice(name.as_bytes())?;
+        push_decision(&self.decider.decision, &mut self.printed)
+    }
+
+    /// Returns what is printed.
+    fn into_printed(self) -> Vec<u8, A>
+        ensures { result ≡ self.entry.printed }
+    {
+        let SectionPrinter {
+            decider: _decider,
+            printed,
+            ..
+        } = self;
+        printed
     }
 }
 
@@ -183,22 +222,6 @@ fn fault_message<A: Allocator>(
         Failure::Parse(error) => Ok(format!(in alloc; "line {number}:\n{error}\n")?),
         Failure::Memory(error) => Err(error),
     }
-}
-
-/// Pushes the name of a section and the verdict of the target on its condition.
-fn push_section<A: SmallAllocator>(
-    row: &TargetInfo<'_, A>,
-    name: &str,
-    condition: &Condition<'_>,
-    decider: &mut Decider<A>,
-    printed: &mut Vec<u8, A>,
-) -> Result<(), AllocError>
-    ensures { OnOk result (AddsVerdict row.now condition.now (printed.old.items ++ name.now)
-        printed.new.items) }
-{
-    decider.decide(condition, row)?;
-    printed.extend_from_slice(name.as_bytes())?;
-    push_decision(&decider.decision, printed)
 }
 
 /// Pushes `decision` as a verdict. If the value is unknown, also pushes the two fillings.

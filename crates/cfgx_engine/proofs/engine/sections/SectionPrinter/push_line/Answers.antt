@@ -1,16 +1,16 @@
 use Rattle.std.proofs.Common.{◌∙◌, ap, refl, append_assoc, Err, Ok}
 use Rattle.cfgx_syntax.specs.Error.{failure_of}
 use Rattle.cfgx_engine.proofs.OutputLemmas.{Fails-parse, shown_fault}
-use Rattle.cfgx_engine.proofs.engine.sections.push_line.Goals as goal
+use Rattle.cfgx_engine.proofs.engine.sections.SectionPrinter.push_line.Goals as goal
 
 pub returns-in_ok-push_section-in-Ok-clause-ok
     : goal.returns-in_ok-push_section-in-Ok-clause-ok
 returns-in_ok-push_section-in-Ok-clause-ok g c =
-    let read = rw c.in-Ok.ensures.0 at c.in_ok-push_section-in-Ok.ensures in
+    let read = rw c.in-Ok.ensures.0 at c.in_ok-push_section-in-Ok.ensures.adds in
     rw c.in-Section.is (
       _,
       (Ok read.0.tree, read.0.reads, refl),
-      read.1 ∙ append_assoc c.args.printed.now.items c.in-Section.name.now _,
+      read.1 ∙ append_assoc c.args.self.now.printed.items c.in-Section.name.now _,
     )
 
 pub returns-in_ok-message-in-Err-clause-err : goal.returns-in_ok-message-in-Err-clause-err
