@@ -16,8 +16,8 @@ use cfg_expr::expr::{Condition, TargetMatcher};
 use cfg_expr::memory::SmallAllocator;
 use std::alloc::{AllocError, Allocator};
 
-/// A way to ask targets of the type `T`.
-pub(super) trait Asker<T> {
+/// A way in which targets of the type `T` answer.
+pub(super) trait Answering<T> {
     ghost use Rattle.std.specs.Prelude.{Bool, Option};
     ghost use Rattle.cfgx_grammar.specs.Question.{Question};
 
@@ -34,7 +34,7 @@ pub(super) trait Asker<T> {
 #[derive(Drop)]
 pub(super) struct ByMatching;
 
-impl<M: TargetMatcher> Asker<M> for ByMatching {
+impl<M: TargetMatcher> Answering<M> for ByMatching {
     ghost answers = { λ _ matcher question answer. answer ≡ answer_by (M.answer matcher) question };
 
     fn ask(&self, targets: &[M], predicate: Predicate<'_>) -> Kleene64
@@ -52,7 +52,7 @@ impl<M: TargetMatcher> Asker<M> for ByMatching {
 
 /// Pushes the value of the condition on each target, in order. Each predicate is asked once of each
 /// target, and the condition is evaluated once for each 64 targets.
-pub(super) fn push_values<A: SmallAllocator, T, S: Asker<T>, V: From<Option<bool>> + Drop>(
+pub(super) fn push_values<A: SmallAllocator, T, S: Answering<T>, V: From<Option<bool>> + Drop>(
     alloc: A,
     asker: &S,
     condition: &Condition<'_>,
@@ -73,7 +73,7 @@ pub(super) fn push_values<A: SmallAllocator, T, S: Asker<T>, V: From<Option<bool
 }
 
 /// Pushes the value of the condition on each of at most 64 targets.
-fn push_piece<A: SmallAllocator, T, S: Asker<T>, V: From<Option<bool>> + Drop>(
+fn push_piece<A: SmallAllocator, T, S: Answering<T>, V: From<Option<bool>> + Drop>(
     alloc: A,
     asker: &S,
     condition: &Condition<'_>,
@@ -91,7 +91,7 @@ fn push_piece<A: SmallAllocator, T, S: Asker<T>, V: From<Option<bool>> + Drop>(
 }
 
 /// Asks the targets each predicate of the condition, in order. Each target has a lane.
-fn ask_all<A: SmallAllocator, T, S: Asker<T>>(
+fn ask_all<A: SmallAllocator, T, S: Answering<T>>(
     alloc: A,
     asker: &S,
     condition: &Condition<'_>,

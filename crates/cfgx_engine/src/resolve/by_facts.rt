@@ -13,7 +13,7 @@ ghost use Rattle.cfgx_engine.specs.Request.{texts};
 ghost use Rattle.cfgx_engine.specs.internal.InLanes.{AddsEach, InLanes, TellsValue};
 ghost use Rattle.cfgx_engine.specs.internal.Shows.{Fails};
 
-use super::auditing::{Asker, push_values};
+use super::auditing::{Answering, push_values};
 use super::facts::{Facts, Otherwise};
 use cfg_expr::Predicate;
 use cfg_expr::error::Failure;
@@ -29,7 +29,7 @@ struct ByFacts {
     otherwise: Otherwise,
 }
 
-impl<A: SmallAllocator> Asker<Facts<A>> for ByFacts {
+impl<A: SmallAllocator> Answering<Facts<A>> for ByFacts {
     ghost use Rattle.cfgx_engine.specs.Facts.{IsAnswer};
 
     ghost answers = { λ asker facts. IsAnswer facts asker.otherwise };
