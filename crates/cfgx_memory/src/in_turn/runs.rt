@@ -3,7 +3,6 @@
 //! A growth is a request for memory.
 use super::{Call, Outcome, refuse_each_growth};
 use cfg_expr::memory::SmallAllocator;
-use cfg_expr::targets::{TargetInfo, TargetTable};
 use cfgx_engine::engine::run;
 use cfgx_testing::heap::{empty_heap, has_every_block};
 use cfgx_testing::refusing::EVERY;
@@ -93,8 +92,7 @@ pub(super) fn run_survives(global: Global, words: &[&str], status: u8) -> bool {
 /// A kind, a status, and the fields of that kind:
 ///
 /// - `each refused`: the words. Each growth is refused in turn.
-/// - `table alone`: the output, and the words. The run takes as many growths as the table of
-///   built-in targets has blocks, and each is refused in turn.
+/// - `counted`: the number of growths, the output, and the words. Each growth is refused in turn.
 /// - `pick`: the input and the output of a run of `pick` on the simulator. Each growth is refused
 ///   in turn.
 /// - `pick alike`: the inputs and the outputs of two such runs, as input, output, input, output.
@@ -112,13 +110,13 @@ each refused | 1 | eval | a | b | ?key) | c
 each refused | 0 | target | aarch64-apple-ios | any(unix, a)
 each refused | 0 | target | aarch64-apple-ios-sim | all(test, a, b, c, d, e)
 each refused | 1 | target | aarch64-apple-ios | key)
-each refused | 2 | target | nowhere | key)
+counted | 2 | 0 | unknown triple\n | target | nowhere | key)
 // A wide run and a deep one.
 each refused | 0 | eval | any(~a,~100~) | ?any(~b,~100~)
 each refused | 0 | target | aarch64-apple-tvos | ~not(~40~a~)~40~
-// The table of targets takes a block for its rows, and one for each of their lists that has
-// members. The condition is not read, because the triple is unknown.
-table alone | 2 | unknown triple\n | target | nowhere | any(~a,~100~)
+// No row is made for an unknown triple, and neither the condition nor the input is read.
+counted | 2 | 0 | unknown triple\n | target | nowhere | any(~a,~100~)
+counted | 2 | 0 | unknown triple\n | pick | nowhere
 pick | 0 | SECTIONS | VERDICTS
 pick | 1 | x | line 1: no tab\n
 pick | 1 | a\tunix\n\nb\tkey)\n | line 3:\nkey)\n   ^ unopened parens\n
@@ -147,7 +145,7 @@ b\tunknown\n\ttrue with 11\n\tfalse with 00\n\
  | ~n~400~\tunknown\n\ttrue with 01\n\tfalse with 10\n\
 b\tunknown\n\ttrue with 11\n\tfalse with 00\nc\tunknown\n\ttrue with 0\n\tfalse with 1\n\
 d\tunknown\n\ttrue with 11\n\tfalse with 10\nf\tunknown\n\ttrue with 10\n\tfalse with 00\n
-// Wrong use takes no memory, so its status stays 2. Any other run without memory has status 3.
+// Wrong use takes no memory, so its status stays 2. Any other run of these has status 3.
 without memory | 2
 without memory | 2 | parse
 without memory | 2 | eval
@@ -156,7 +154,7 @@ without memory | 2 | pick | a | b
 without memory | 2 | target | nowhere
 without memory | 3 | parse | a
 without memory | 3 | eval | all(a)
-without memory | 3 | target | nowhere | )
+without memory | 3 | target | aarch64-apple-ios | )
 "#;
 
 // Returns whether a run without memory ends with `status`. If it is `WRONG_USE`, the run must write
@@ -178,31 +176,20 @@ fn ends_without_memory(global: Global, words: &[&str], status: u8) -> bool {
     is_right && has_every_block(heap)
 }
 
-// Counts the blocks of a table of `rows`: one for the rows, and one for each list that has members.
-fn blocks_of_table(rows: &[TargetInfo<'_>]) -> u64 {
-    let mut blocks = 1u64;
-    for row in rows {
-        let families = u64::from(!row.families.as_slice().is_empty());
-        let atomics = u64::from(!row.has_atomics.as_slice().is_empty());
-        blocks = blocks.saturating_add(families).saturating_add(atomics);
-    }
-    blocks
-}
-
-// Returns whether a run takes as many growths as the table of built-in targets has blocks. Each
-// growth is refused in turn. The first of `fields` is the output, and the others are the words.
-fn takes_table_alone(global: Global, status: u8, fields: &[&str]) -> bool {
-    match (fields, TargetTable::builtins(global)) {
-        ([output, words @ ..], Ok(table)) => {
-            let wanted = WantedRun {
-                input: "",
-                status,
-                output: output.as_bytes(),
-            };
-            let growths = run_growths(global, words, &wanted);
-            growths == Some(blocks_of_table(table.rows()))
-        }
-        _ => false,
+// Returns whether a run takes as many growths as the first of `fields` says, and each that is
+// refused in turn is survived. The second is the output, and the others are the words.
+fn takes_growths(global: Global, status: u8, fields: &[&str]) -> bool {
+    let [growths, output, words @ ..] = fields else {
+        return false;
+    };
+    let wanted = WantedRun {
+        input: "",
+        status,
+        output: output.as_bytes(),
+    };
+    match growths.parse::<u64>() {
+        Ok(growths) => run_growths(global, words, &wanted) == Some(growths),
+        Err(_) => false,
     }
 }
 
@@ -237,7 +224,7 @@ fn picks_take_same(global: Global, status: u8, fields: &[&str]) -> bool {
 fn run_passes(global: Global, kind: &str, status: u8, fields: &[&str]) -> bool {
     match kind {
         "each refused" => run_survives(global, fields, status),
-        "table alone" => takes_table_alone(global, status, fields),
+        "counted" => takes_growths(global, status, fields),
         "pick" => pick_survives(global, status, fields),
         "pick alike" => picks_take_same(global, status, fields),
         "without memory" => ends_without_memory(global, fields, status),
