@@ -1,6 +1,5 @@
 pub mod AuditLemmas
 pub mod FactLemmas
-pub mod KeyLemmas
 pub mod LaneAnswers
 pub mod NameLemmas
 pub mod OneOutput

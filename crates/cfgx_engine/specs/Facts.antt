@@ -8,13 +8,11 @@ use Rattle.std.specs.Ordering.{on}
 use Rattle.std.specs.List.{AllByRecursion, Any, Contains, filter_map}
 use Rattle.std.specs.Str.{bytes_eq}
 use Rattle.cfgx_syntax.specs.Stripping.{strip}
-use Rattle.cfgx_syntax.specs.Items.{Item, Ending, AreItems}
-use Rattle.cfgx_syntax.specs.Error.{Cause, TextFault, fault_of}
+use Rattle.cfgx_syntax.specs.Error.{TextFault, fault_of}
 use Rattle.cfgx_grammar.specs.Question.{Question}
 use Rattle.cfgx_grammar.specs.Tree.{Tree, asked}
-use Rattle.cfgx_grammar.specs.Grammar.{HasTree, leaf_tokens}
-use Rattle.cfgx_grammar.specs.Classification.{Class, Part, class}
-use Rattle.cfgx_grammar.specs.Answer.{HasOneTree}
+use Rattle.cfgx_grammar.specs.Grammar.{HasTree}
+use Rattle.cfgx_grammar.specs.{Answer.HasOneTree, Unaskable.IsUnaskable}
 use Rattle.cfgx_engine.specs.Readings.{ParsesAs}
 use Rattle.cfgx_engine.specs.declared.resolve.facts.Otherwise.{Otherwise}
 use Rattle.cfgx_engine.specs.declared.resolve.facts.Otherwise.TheVariants as otherwise
@@ -85,20 +83,6 @@ pub record NameAlike (one other : FactTexts) : Type 0 where
       → IsNamed one.of_true question ↔ IsNamed other.of_true question
   pub unknown_alike : (question : Question)
       → IsNamed one.of_unknown question ↔ IsNamed other.of_unknown question
-
--- the text is a key, or a key, `=` and a value
-pub record IsKeyAndValue (text : List ℕ) : Type 0 where
-  pub key : List ℕ
-  pub value : Option (List ℕ)
-  pub items : List Item
-  pub are_items : AreItems text items Ending.blank
-  pub spelled : map (λ item. item.token) items ≡ leaf_tokens key value
-
--- No condition can ask the text: it is a key, or a key, `=` and a value, and the key is at fault.
--- The key begins with `target_` and is not known, or it lacks the value that it needs.
-abbrev pub IsUnaskable : List ℕ → Type 0
-IsUnaskable text = (leaf : IsKeyAndValue text) × (cause : Cause)
-    × (class leaf.key leaf.value ≡ Class.faulty cause Part.of_key)
 
 -- a fact that `cfgx eval` takes: its text is a condition
 abbrev pub IsFlag : List ℕ → Type 0

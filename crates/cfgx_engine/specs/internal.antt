@@ -1,7 +1,6 @@
 -- The contracts of private functions cite these definitions. No public contract does.
 pub mod AddsLine
 pub mod InLanes
-pub mod KeysAndValues
 pub mod Names
 pub mod ReadsFacts
 pub mod ReadsMore

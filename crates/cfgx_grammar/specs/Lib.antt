@@ -8,5 +8,6 @@ pub mod LastPredicate
 pub mod Question
 pub mod Spelling
 pub mod Tree
+pub mod Unaskable
 pub mod WellFormed
 pub mod parsing

@@ -1,3 +1,5 @@
+pub mod FaultyKeys
+pub mod FewTokens
 pub mod Innermost
 pub mod KindLemmas
 pub mod Kept

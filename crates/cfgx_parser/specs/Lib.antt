@@ -1,4 +1,5 @@
 pub mod Kinds
+pub mod Leaf
 pub mod Order
 pub mod nodes
 pub mod parsing

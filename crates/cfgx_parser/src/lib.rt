@@ -4,5 +4,6 @@
 mod classification;
 pub mod function;
 pub mod kinds;
+pub mod leaf;
 pub mod nodes;
 pub mod parser;

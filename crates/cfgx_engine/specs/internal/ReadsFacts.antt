@@ -5,8 +5,8 @@ use Rattle.cfgx_syntax.specs.Stripping.{strip}
 use Rattle.cfgx_syntax.specs.declared.error.Failure.{Failure}
 use Rattle.cfgx_syntax.specs.declared.error.Failure.TheVariants as failure
 use Rattle.cfg_expr.specs.Evaluation.{AsksInOrder}
-use Rattle.cfgx_grammar.specs.Question.{Question}
-use Rattle.cfgx_engine.specs.Facts.{FactTexts, IsFlag, IsRustcFact, IsUnaskable}
+use Rattle.cfgx_grammar.specs.{Question.Question, Unaskable.IsUnaskable}
+use Rattle.cfgx_engine.specs.Facts.{FactTexts, IsFlag, IsRustcFact}
 use Rattle.cfgx_engine.specs.Facts.{NameAlike, Names, texts_of}
 use Rattle.cfgx_engine.specs.declared.resolve.facts.FactsError.{FactsError}
 use Rattle.cfgx_engine.specs.declared.resolve.facts.FactsError.TheVariants as facts_error

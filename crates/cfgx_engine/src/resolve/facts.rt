@@ -1,14 +1,11 @@
 //! Facts of a target, and what they answer to predicates.
-ghost use Rattle.std.specs.Prelude.{◌≡◌, ◌↔◌, Err, IfErr, IfOk, IsTrue, OnOk, false};
+ghost use Rattle.std.specs.Prelude.{◌≡◌, ◌↔◌, Err, IfErr, IsTrue, OnOk, false};
 ghost use Rattle.std.specs.Cmp.Rules.{comparing};
 ghost use Rattle.std.proofs.Common.{rules};
-ghost use Rattle.cfgx_syntax.specs.Lexer.{item_of};
 ghost use Rattle.cfgx_syntax.specs.Stripping.{strip};
 ghost use Rattle.cfg_expr.specs.Predicate.{question_of};
 ghost use Rattle.cfgx_engine.specs.Facts.{IsAnswer, IsFlag, IsRustcFact, ReadsFacts};
 ghost use Rattle.cfgx_engine.specs.Facts.{fact_text, otherwise_eq, unnamed_answer};
-ghost use Rattle.cfgx_engine.specs.internal.KeysAndValues.{AreLast, IsKey, IsKeyAt, TakesNext};
-ghost use Rattle.cfgx_engine.specs.internal.KeysAndValues.{kind_of};
 ghost use Rattle.cfgx_engine.specs.internal.Names.{AreNames, facts_in};
 ghost use Rattle.cfgx_engine.specs.internal.ReadsFacts.{AddsFact, AddsText, accepts};
 ghost use Rattle.cfgx_engine.specs.internal.ReadsFacts.{error_at, passes_over};
@@ -20,8 +17,8 @@ use super::names::Names;
 use cfg_expr::Predicate;
 use cfg_expr::error::{Failure, ParseError};
 use cfg_expr::expr::ConditionReader;
-use cfg_expr::expr::lexer::{Lexer, LexerToken, Token};
 use cfg_expr::memory::SmallAllocator;
+use cfgx_parser::leaf::is_unaskable;
 use std::alloc::{AllocError, Allocator, Global};
 use std::marker::Model;
 
@@ -237,7 +234,7 @@ fn add_text<'a, A: SmallAllocator>(
         Err(Failure::Parse(error)) => match on_unaskable {
             OnUnaskable::Refuse => Err(Failure::Parse(error)),
             OnUnaskable::PassOver => {
-                if is_key_at(alloc, text, error.span.start)? {
+                if is_unaskable(alloc, text)? {
                     Ok(())
                 } else {
                     Err(Failure::Parse(error))
@@ -245,80 +242,6 @@ fn add_text<'a, A: SmallAllocator>(
             }
         },
         Err(failure) => Err(failure),
-    }
-}
-
-/// What a lexer yields next, as far as it matters to `is_key_at`.
-#[derive(Clone, Copy, PartialEq, Eq)]
-enum Next {
-    /// A key, and where it starts
-    Key(usize),
-    /// `=`
-    Equals,
-    /// A value
-    Value,
-    /// Nothing: only white space is left
-    End,
-    /// Another token, or none: what is left has a fault
-    Other,
-}
-
-/// Returns what `found` is.
-fn kind_of(found: &LexerToken<'_>) -> Next
-    ensures { result ≡ kind_of (item_of found.now) }
-{
-    match found.token {
-        Token::Key(_) => Next::Key(found.span.start),
-        Token::Equals => Next::Equals,
-        Token::Value(_) => Next::Value,
-        Token::All | Token::Any | Token::Not => Next::Other,
-        Token::OpenParen | Token::CloseParen | Token::Comma => Next::Other,
-    }
-}
-
-/// Takes the next token, and returns what it is.
-fn take_next<A: SmallAllocator>(lexer: &mut Lexer<'_, A>) -> Result<Next, AllocError>
-    ensures { IfOk result (λ next. TakesNext lexer.old next lexer.new) }
-{
-    match lexer.next() {
-        Some(Ok(found)) => Ok(kind_of(&found)),
-        Some(Err(Failure::Parse(_))) => Ok(Next::Other),
-        Some(Err(Failure::Memory(error))) => Err(error),
-        None => Ok(Next::End),
-    }
-}
-
-/// Whether the stripped text is a key, or a key, `=` and a value, and the key starts at `place`.
-fn is_key_at<A: SmallAllocator>(alloc: A, text: &str, place: usize) -> Result<bool, AllocError>
-    ensures { IfOk result (λ is. IsTrue is ↔ IsKeyAt (strip text.now) place) }
-{
-    let mut lexer = Lexer::new(alloc, text);
-    let first = take_next(&mut lexer)?;
-    let second = take_next(&mut lexer)?;
-    let third = take_next(&mut lexer)?;
-    let fourth = take_next(&mut lexer)?;
-    if is_key(first, place) {
-        Ok(are_last(second, third, fourth))
-    } else {
-        Ok(false)
-    }
-}
-
-/// Whether `first` is a key that starts at `place`.
-fn is_key(first: Next, place: usize) -> bool
-    ensures { IsTrue result ↔ IsKey first place }
-{
-    first == Next::Key(place)
-}
-
-/// Whether nothing comes after a key, or `=`, a value and nothing else.
-fn are_last(second: Next, third: Next, fourth: Next) -> bool
-    ensures { IsTrue result ↔ AreLast second third fourth }
-{
-    match second {
-        Next::End => true,
-        Next::Equals => third == Next::Value && fourth == Next::End,
-        Next::Key(_) | Next::Value | Next::Other => false,
     }
 }
 
