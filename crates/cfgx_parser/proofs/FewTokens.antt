@@ -1,6 +1,7 @@
 -- Tokens that a lexer yields are the first ones of its text.
 use Rattle.std.proofs.Common.{◌≡◌, ℕ, ◌≤◌, List, [], ◌∷◌, ◌++◌, length, map, drop, refl, ◌∙◌, sym}
-use Rattle.std.proofs.Common.{◌↔◌, Option, Err, Some, None, arith, rules, length-append, ap, ◌+◌, append-nil}
+use Rattle.std.proofs.Common.{◌↔◌, Option, Err, Some, None}
+use Rattle.std.proofs.Common.{arith, rules, length-append, ap, ◌+◌, append-nil}
 use Rattle.std.proofs.lemmas.List.{append_assoc, length-map, map-append}
 use Rattle.cfgx_syntax.specs.Items.{Item, Ending, EndsAs, ItemsFrom, IsBlank, lexical}
 use Rattle.cfgx_syntax.specs.Items.{HasOneTokenList}
