@@ -23,9 +23,6 @@ pub record Reads (lexer now : LexerState) (read : List Token) : Type 0 where
       → (rest : List Item) × ItemsFrom now.text now.place rest ending
       × (tokens_of items ≡ map token_of read ++ tokens_of rest)
 
-pub Reads-start : (lexer : LexerState) → Reads lexer lexer []
-Reads-start lexer = record { left = λ items ending come. (items, come, refl) }
-
 module _ {lexer now : LexerState} {read : List Token} (reads : Reads lexer now read) where
   pub Reads-token : (found : LexerToken) (next : LexerState) → GivesItem now (item_of found) next
       → Reads lexer next (read ++ found.token ∷ [])
