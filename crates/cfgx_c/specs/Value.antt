@@ -1,6 +1,6 @@
 -- Answers and values as bytes.
 -- Source: include/cfgx.h.
-use Rattle.std.specs.Prelude.{◌≡◌, ◌≢◌, ◌==◌, ℕ, Bool, true, false, List, [], ◌∷◌, Option, Some}
+use Rattle.std.specs.Prelude.{◌≡◌, ◌≢◌, ◌==◌, ℕ, Bool, true, false, List, Option, Some}
 use Rattle.std.specs.Prelude.{None, length, map, if◌then◌else◌}
 use Rattle.cfgx_grammar.specs.Answer.{HasOneTree}
 use Rattle.cfg_expr.specs.Filling.{three_valued}

@@ -89,8 +89,8 @@ fn find_values(
 /// - `FAULTY_FACT`: a fact is faulty or not UTF-8. `place` becomes the number of the first one.
 ///
 /// Returns `OUT_OF_MEMORY` if memory was refused, unless the ends are bad or the number of values
-/// is too large. Unless the status is `DONE`, `needed` becomes 0 and `values` is unchanged. Unless it
-/// is `NOT_UTF8`, `FAULTY` or `FAULTY_FACT`, `place` is unchanged.
+/// is too large. Unless the status is `DONE`, `needed` becomes 0 and `values` is unchanged. Unless
+/// it is `NOT_UTF8`, `FAULTY` or `FAULTY_FACT`, `place` is unchanged.
 #[unsafe(no_mangle)]
 pub extern "C" fn cfgx_audit(
     alloc: Global,

@@ -17,8 +17,8 @@ use std::alloc::Global;
 /// Checks whether a text is a condition. Returns the status `DONE` if it is. Returns `FAULTY` if
 /// the text has a fault, and writes its first one to `fault`.
 ///
-/// Returns `NOT_UTF8` if the text is not UTF-8, and `OUT_OF_MEMORY` if memory was refused. Unless the
-/// status is `FAULTY`, `fault` is unchanged.
+/// Returns `NOT_UTF8` if the text is not UTF-8, and `OUT_OF_MEMORY` if memory was refused. Unless
+/// the status is `FAULTY`, `fault` is unchanged.
 #[unsafe(no_mangle)]
 pub extern "C" fn cfgx_check(alloc: Global, text: &[u8], fault: &mut CfgxFault) -> u32
     ensures done { result ≡ done → HasOneTree (strip text.now) }

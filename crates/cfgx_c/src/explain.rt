@@ -18,7 +18,8 @@ use std::alloc::Global;
 /// fills `message` with what its first fault prints.
 ///
 /// Returns `DONE` if the text is a condition, `NOT_UTF8` if it is not UTF-8, and `OUT_OF_MEMORY` if
-/// memory was refused. Unless the status is `FAULTY`, `needed` becomes 0 and `message` is unchanged.
+/// memory was refused. Unless the status is `FAULTY`, `needed` becomes 0 and `message` is
+/// unchanged.
 #[unsafe(no_mangle)]
 pub extern "C" fn cfgx_explain(
     alloc: Global,

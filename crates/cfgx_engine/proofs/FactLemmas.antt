@@ -131,7 +131,8 @@ module _ (passed : OnUnaskable) (text : List ℕ) (old new : List Code) (named :
       (λ (questions, asks, is). rw is (AreNames-append old questions named asks.well_formed))
       (λ (passes, nothing, is). rw (is, append-nil) named) adds.1)
 
-  taken_text : IsText passed (strip text) adds.0 → HasOneTree (strip text) ⊎ passes_over passed (strip text)
+  taken_text : IsText passed (strip text) adds.0
+      → HasOneTree (strip text) ⊎ passes_over passed (strip text)
   taken_text (inl (questions, asks, is)) = inl asks.asked.0
   taken_text (inr (passes, nothing, is)) = inr passes
 
@@ -228,8 +229,8 @@ pub AreFacts-sorted : (Accepts : List ℕ → Type 0) (facts : List (List ℕ))
     → IsPermutation of_true new_true → IsPermutation of_unknown new_unknown
     → AreFacts Accepts facts (facts_in of_true of_unknown)
     → AreFacts Accepts facts (facts_in new_true new_unknown)
-AreFacts-sorted Accepts facts of_true of_unknown new_true new_unknown named named' moves moves' are =
-    record {
+AreFacts-sorted Accepts facts of_true of_unknown new_true new_unknown named named' moves moves'
+    are = record {
       each = are.each;
       alike = record {
         true_alike = λ question.

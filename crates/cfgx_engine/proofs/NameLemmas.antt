@@ -2,7 +2,8 @@
 use Rattle.std.proofs.Common.{◌≡◌, ◌≤◌, ◌<◌, ◌+◌, ◌↔◌, ◌∙◌, refl, sym, ap, ℕ, zero, suc, List}
 use Rattle.std.proofs.Common.{[], ◌∷◌, ◌++◌, arith, append_assoc, drop, length, map}
 use Rattle.std.proofs.Common.{Ok, Result, Err, IsTrue, get_or}
-use Rattle.std.proofs.lemmas.List.{drop-append-le, get_or-map, get_or_default, length-drop, length-map}
+use Rattle.std.proofs.lemmas.List.{drop-append-le, get_or-map, get_or_default, length-drop}
+use Rattle.std.proofs.lemmas.List.{length-map}
 use Rattle.std.proofs.lemmas.List.{length-append, map-append, take-append-le}
 use Rattle.std.proofs.lemmas.List.Sorted.{searchable_from_sorted}
 use Rattle.std.proofs.Math.Seq.{drop-append_seam, take-append_seam}
@@ -87,8 +88,9 @@ codes_at-append buffer more (named ∷ all) inside =
     rw (code_at-append buffer more named inside.0, codes_at-append buffer more all inside.1) refl
 
 -- a name more, whose texts are added to the buffer
-module _ (buffer key value : List ℕ) (all : List Named) (named : Named) (start : named.start ≡ length buffer)
-    (key_len : named.key_len ≡ length key) (value_len : named.value_len ≡ length value)
+module _ (buffer key value : List ℕ) (all : List Named) (named : Named)
+    (start : named.start ≡ length buffer) (key_len : named.key_len ≡ length key)
+    (value_len : named.value_len ≡ length value)
     (inside : All (IsInside (length buffer)) all) where
   pub codes_at-push : map (code_at ((buffer ++ key) ++ value)) (all ++ named ∷ [])
       ≡ map (code_at buffer) all ++ code_with named.kind named.number key value ∷ []
@@ -118,7 +120,8 @@ module _ (buffer key value : List ℕ) (all : List Named) (named : Named) (start
 -- A name is found among those that are sorted.
 
 module _ {X : Type 0} (f : X → Code) where
-  pub sorted_codes : (all : List X) → IsSortedBy (λ one other. is_lt (code_cmp (f one) (f other))) all
+  pub sorted_codes : (all : List X)
+      → IsSortedBy (λ one other. is_lt (code_cmp (f one) (f other))) all
       → IsSorted code_cmp (map f all)
   sorted_codes [] sorted k d above below = absurd (omega arith)
   sorted_codes (x ∷ xs) sorted k d above below =

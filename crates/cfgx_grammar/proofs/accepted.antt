@@ -5,7 +5,8 @@ use Rattle.std.proofs.Common.{option_map, Result, Ok, sym, false, Bool, map, Err
 use Rattle.std.proofs.Common.{if◌then◌else◌}
 use Rattle.std.proofs.{lemmas.Bool.Decides.Decides-eqb, lemmas.Bool.false≢true}
 use Rattle.cfgx_syntax.specs.{Token.Token, Items.Item, Error.Fault}
-use Rattle.cfgx_grammar.specs.{Question.{Question, Leaf}, FollowSet.{TokenKind, takes, kind_of, next}}
+use Rattle.cfgx_grammar.specs.Question.{Question, Leaf}
+use Rattle.cfgx_grammar.specs.FollowSet.{TokenKind, takes, kind_of, next}
 use Rattle.cfgx_grammar.specs.{Tree.ListFunction, Tree.Tree, Tree.Trees, Tree.count, Grammar.IsLeaf}
 use Rattle.cfgx_grammar.specs.Grammar.{commas, Separates, IsMember, IsList, IsTree, leaf_tokens}
 use Rattle.cfgx_grammar.specs.parsing.State.{Function, Open, name_of, Word, Pending, Builder, State}
@@ -195,7 +196,8 @@ module _ {W M L : Type 0} {builder : Builder W M L} where
   Completes-none last s t tokens may ends e =
       let named = λ (name : takes last TokenKind.name ≡ true). Completes-member last s tokens name
       (λ none. rw (same_ended s t none ends) (Rest-none NoComma t.stack t.roots 0 tokens refl e)) in
-      let after = λ (comma : takes last TokenKind.comma ≡ true). Completes-ended last s t tokens comma
+      let after = λ (comma : takes last TokenKind.comma ≡ true).
+      Completes-ended last s t tokens comma
       ends (Rest-none Separates t.stack t.roots 0 tokens tt e) in
       grind (arith, named, after)
 

@@ -127,7 +127,8 @@ spelt_word word value question quoted (is, long, says, spelled) =
 -- a text is asked for by its key
 named : (key : TextKey) (text : List ℕ) → IsWord (key_name key)
     × (nat_lt 3 (length (key_name key)) ≡ true)
-    × (class (key_name key) (Some text) ≡ predicate (Question.target (TargetQuestion.text key text)))
+    × (class (key_name key) (Some text)
+    ≡ predicate (Question.target (TargetQuestion.text key text)))
 unfolding class
 named key text = search rules
 
@@ -179,7 +180,8 @@ module _ (key : List ℕ) (value : Option (List ℕ)) where
   good_target : (name v : List ℕ) → HasNoQuote v → Good (target_class name v)
   unfolding class
   good_target name v q =
-      let text : (asked : TextKey) → Good (asks_for asked v) = λ asked. inl (spelt_text asked v q) in
+      let text : (asked : TextKey) → Good (asks_for asked v) =
+      λ asked. inl (spelt_text asked v q) in
       let endian = good_read TargetQuestion.endian invalid_integer (endian_named v) (λ e is.
       spelt_word (codes "target_endian") (Some (endian_text e)) _ (grind arith)
       ((refl, refl), refl, rw (endian_named-text e) refl, refl)) in

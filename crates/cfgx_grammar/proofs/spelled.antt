@@ -4,7 +4,8 @@ use Rattle.std.proofs.Common.{Option, Some, None, Ok, sym, refl, ap, ◌∙◌, 
 use Rattle.std.proofs.Common.{append_assoc, length, take, drop, append-nil}
 use Rattle.std.proofs.Math.Seq.{take-append_seam, drop-append_seam}
 use Rattle.cfgx_syntax.specs.{Token.Token, Items.Item, Items.Ending}
-use Rattle.cfgx_grammar.specs.{Question.Leaf, Question.Question, FollowSet.TokenKind, FollowSet.takes}
+use Rattle.cfgx_grammar.specs.Question.{Leaf, Question}
+use Rattle.cfgx_grammar.specs.FollowSet.{TokenKind, takes}
 use Rattle.cfgx_grammar.specs.{Classification.Class, Classification.class, FirstFault.lacks_value}
 use Rattle.cfgx_grammar.specs.{LastPredicate.word_of, LastPredicate.class_of, parsing.State.initial}
 use Rattle.cfgx_grammar.specs.{Tree.ListFunction, Tree.Tree, Tree.Trees, Tree.count, Grammar.IsTree}

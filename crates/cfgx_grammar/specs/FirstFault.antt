@@ -3,7 +3,7 @@
 -- a limit. It is the fault of the first token that has one; else the fault where no token can
 -- start; else the fault at the end of the text. All counts are over the tokens before a place.
 use Rattle.std.specs.Prelude.{◌≡◌, ℕ, ◌+◌, ◌==◌, ◌&&◌, ◌||◌, Bool, false, not, nat_lt, List, []}
-use Rattle.std.specs.Prelude.{◌∷◌, length, take, reverse, codes, slice_get, Option, Some, None}
+use Rattle.std.specs.Prelude.{◌∷◌, length, take, reverse, slice_get, Option, Some, None}
 use Rattle.std.specs.Prelude.{option_map, option_and_then, if◌then◌else◌}
 use Rattle.std.specs.Option.{option_or}
 use Rattle.cfgx_syntax.specs.Token.{Token}

@@ -1,5 +1,5 @@
 -- Which token may follow which, and what a fault says was expected, as in the crate cfg-expr.
-use Rattle.std.specs.Prelude.{ℕ, Bool, true, false, List, [], ◌∷◌, codes, Option, Some, None}
+use Rattle.std.specs.Prelude.{ℕ, Bool, true, false, List, [], ◌∷◌, Option, Some, None}
 use Rattle.std.specs.List.{list_any}
 use Rattle.cfgx_syntax.specs.Token.{Token}
 use Rattle.cfgx_syntax.specs.Terms as terms

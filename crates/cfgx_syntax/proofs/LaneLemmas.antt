@@ -1,12 +1,16 @@
 -- What the operations on two planes do in each lane.
-use Rattle.std.proofs.Common.{◌≡◌, ℕ, suc, ◌+◌, ◌*◌, ◌/◌, ◌%◌, ◌^◌, ◌≤◌, ◌<◌, min, max, true, false, Some, refl, sym, ap, ◌∙◌}
-use Rattle.std.proofs.{Common.arith, Common.zero, lemmas.Nat.and_comm, lemmas.Nat.Bits.same_from_bits}
+use Rattle.std.proofs.Common.{◌≡◌, ℕ, suc, ◌+◌, ◌*◌, ◌/◌, ◌%◌, ◌^◌, ◌≤◌, ◌<◌, min, max, true, false}
+use Rattle.std.proofs.Common.{Some, refl, sym, ap, ◌∙◌}
+use Rattle.std.proofs.Common.{arith, zero}
+use Rattle.std.proofs.lemmas.Nat.{and_comm}
+use Rattle.std.proofs.lemmas.Nat.Bits.{same_from_bits}
 use Rattle.std.proofs.{lemmas.Bool.cases_lt, Common.⊎_elim}
 use Rattle.std.proofs.lemmas.Nat.Bits.{bit_at_and, bit_at_or, bit_at-zero, bit_at-lt, bit_at_ones}
 use Rattle.std.proofs.lemmas.Nat.Bits.{bit_at-suc, bit_at_above, bit_at_cat_low, bit_at_lowest}
 use Rattle.std.specs.{Prelude.bit_and, Prelude.bit_or, Int.bit_at}
 use Rattle.cfgx_syntax.specs.Kleene.{Planes, AreDisjoint, IsDisjoint, EachLane, lane}
-use Rattle.cfgx_syntax.specs.{Kleene.answer_of_bits, Kleene.behind, Logic.{kleene_and, kleene_or, kleene_not}}
+use Rattle.cfgx_syntax.specs.Kleene.{answer_of_bits, behind}
+use Rattle.cfgx_syntax.specs.Logic.{kleene_and, kleene_or, kleene_not}
 use Rattle.cfgx_syntax.specs.Kleene.{planes_and, planes_or, planes_not, planes_top, planes_bottom}
 
 -- planes that are disjoint are so in each lane, and the other way round

@@ -1,6 +1,7 @@
 -- The condition of a text with or without an outer `cfg( )`.
 -- Source: `Expression::original` of the crate cfg-expr.
-use Rattle.std.specs.Prelude.{◌≡◌, ℕ, ◌+◌, ◌-◌, ◌≤◌, Bool, List, length, codes, nat_eq, ◌&&◌, if◌then◌else◌}
+use Rattle.std.specs.Prelude.{◌≡◌, ℕ, ◌+◌, ◌-◌, ◌≤◌, Bool, List, length, codes, nat_eq, ◌&&◌}
+use Rattle.std.specs.Prelude.{if◌then◌else◌}
 use Rattle.std.specs.{Prelude.slice_range, List.starts_with, List.ends_with}
 
 -- whether the text starts with `cfg(` and ends with `)`

@@ -1,7 +1,10 @@
 -- A closure that is asked one question after another.
-use Rattle.std.proofs.Common.{◌≡◌, ◌<◌, ℕ, List, [], ◌∷◌, ◌++◌, length, set, ⊎_elim, ◌⊎◌, ap, refl, sym, ◌∙◌}
+use Rattle.std.proofs.Common.{◌≡◌, ◌<◌, ℕ, List, [], ◌∷◌, ◌++◌, length, set, ⊎_elim, ◌⊎◌, ap, refl}
+use Rattle.std.proofs.Common.{sym, ◌∙◌}
 use Rattle.std.{proofs.Common.append_assoc, proofs.Common.arith, proofs.lemmas.List.append-nil}
-use Rattle.std.{proofs.lemmas.List.length-set, specs.List.AllByRecursion, specs.Iterator.AlwaysYields}
+use Rattle.std.proofs.lemmas.List.{length-set}
+use Rattle.std.specs.List.{AllByRecursion}
+use Rattle.std.specs.Iterator.{AlwaysYields}
 use Rattle.std.proofs.Common.{Option, Some, None}
 use Rattle.cfgx_grammar.specs.Question.{Question}
 use Rattle.cfg_expr.specs.Asking.{Asker, Asks, Calls, MayAsk, MayAskEach}
@@ -19,8 +22,9 @@ Calls-then (Calls.more _ _ _ _ _ _ _ first calls) asks =
     Calls.more _ _ _ _ _ _ _ first (Calls-then calls asks)
 
 -- an answer more leaves the number of slots
-pub inside-kept : {T : Type 0} (slots new : List (Slot T)) (place : ℕ) (one : Slot T) (next : List ℕ)
-    → new ≡ set slots place one → AllByRecursion (λ place. place < length slots) next
+pub inside-kept : {T : Type 0} (slots new : List (Slot T)) (place : ℕ) (one : Slot T)
+    (next : List ℕ) → new ≡ set slots place one
+    → AllByRecursion (λ place. place < length slots) next
     → AllByRecursion (λ place. place < length new) next
 inside-kept slots new place one next put inside = rw (put, length-set slots place one) inside
 
@@ -54,7 +58,8 @@ module _ {F T : Type 0} {asker : Asker F T} {start now : F} {questions rest : Li
   pub Asking-over : rest ≡ [] → (answers : List T) × Calls asker start questions answers now
       × (slots ≡ with_answers initial at answers)
   Asking-over none =
-      let all : questions ≡ asking.before = asking.all ∙ rw (none, append-nil asking.before) refl in (
+      let all : questions ≡ asking.before =
+      asking.all ∙ rw (none, append-nil asking.before) refl in (
         asking.given,
         rw all asking.calls,
         asking.puts [] ∙ rw (append-nil asking.given) refl,

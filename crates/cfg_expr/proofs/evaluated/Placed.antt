@@ -19,7 +19,8 @@ use Rattle.cfgx_parser.proofs.Places.{read-places}
 use Rattle.cfgx_parser.specs.nodes.Prefix.{Node, node_at, prefix, prefix_each, places, places_by}
 use Rattle.cfgx_parser.specs.{nodes.Shape.{shape, shape_of}, declared.nodes.ExprNode.ExprNode}
 use Rattle.cfgx_parser.proofs.Shapes.{length-shape, places-shape, shapes-shape}
-use Rattle.cfg_expr.specs.nodes.{AnswerSlots.{no_answers, with_answers}, Reading.{HoldsAnswers, Slot, slot_of}}
+use Rattle.cfg_expr.specs.nodes.AnswerSlots.{no_answers, with_answers}
+use Rattle.cfg_expr.specs.nodes.Reading.{HoldsAnswers, Slot, slot_of}
 use Rattle.cfg_expr.specs.declared.expr.evaluating.Slot.TheVariants as slot
 use Rattle.cfg_expr.proofs.evaluated.Nodes.{read-mapped, shapes-kept}
 

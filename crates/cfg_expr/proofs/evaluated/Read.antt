@@ -1,5 +1,6 @@
 -- The nodes of a tree whose leaves are answers, read from the last to the first, leave its value.
-use Rattle.std.proofs.Common.{◌≡◌, ◌+◌, ◌≤◌, ◌<◌, ◌++◌, Bool, ℕ, zero, suc, List, [], ◌∷◌, length, map}
+use Rattle.std.proofs.Common.{◌≡◌, ◌+◌, ◌≤◌, ◌<◌, ◌++◌, Bool, ℕ, zero, suc, List, [], ◌∷◌, length}
+use Rattle.std.proofs.Common.{map}
 use Rattle.std.proofs.Common.{take, drop, get_or, sym, refl, ap, ◌∙◌, arith, Some}
 use Rattle.std.proofs.{Common.length-append, Math.Seq.drop-append_seam, Math.Seq.take-append_seam}
 use Rattle.std.proofs.lemmas.List.{append-nil, drop-drop, get_or-drop, get_or-map, get_or-take}
@@ -13,7 +14,8 @@ use Rattle.cfgx_parser.specs.nodes.Prefix.{Node, list_func, prefix, prefix_each}
 use Rattle.cfgx_parser.specs.nodes.Shape.{Shape, shape, shape_of}
 use Rattle.cfgx_parser.specs.declared.function.Func.TheVariants.{Not}
 use Rattle.cfgx_parser.specs.declared.nodes.ExprNode.{ExprNode}
-use Rattle.cfg_expr.specs.nodes.Reading.{Slot, HoldsAnswers, IsNext, entries, entry, first_shape, first_slot}
+use Rattle.cfg_expr.specs.nodes.Reading.{Slot, HoldsAnswers, IsNext, entries, entry, first_shape}
+use Rattle.cfg_expr.specs.nodes.Reading.{first_slot}
 use Rattle.cfg_expr.specs.nodes.Reading.{joined, listed, members, slot_of, slot_value, top_value}
 use Rattle.cfg_expr.specs.nodes.Reading.{values_in}
 use Rattle.cfg_expr.specs.declared.expr.evaluating.Connective.{Connective, TheVariants.{And, Or}}

@@ -1,5 +1,6 @@
 -- Steps have a value over as many answers as they ask, or over none.
-use Rattle.std.proofs.Common.{◌≡◌, ◌+◌, ◌∙◌, false, true, List, [], ◌∷◌, None, arith, count_by, length}
+use Rattle.std.proofs.Common.{◌≡◌, ◌+◌, ◌∙◌, false, true, List, [], ◌∷◌, None, arith, count_by}
+use Rattle.std.proofs.Common.{length}
 use Rattle.std.proofs.Common.{cond, refl, replicate}
 use Rattle.std.proofs.lemmas.List.{length-drop, length-replicate}
 use Rattle.std.proofs.lemmas.List.Sums.{sum_by-cons}

@@ -100,7 +100,8 @@ module _ {T : Type 0} (logic : Operations T) {steps : List Step} {answers left :
       none (answer ∷ left) values is = refl
       none [] (value ∷ values) is = absurd (cc (is))
 
-    pub run-last : (value : T) (below : List (Option T)) (found : Option T) → Some value ≡ slice_get running.values 0
+    pub run-last : (value : T) (below : List (Option T)) (found : Option T)
+        → Some value ≡ slice_get running.values 0
         → Holds below (drop 1 running.values)
         → found ≡ then_some ((length left == 0) && (length below == 0)) value
         → found ≡ run_steps logic steps answers []

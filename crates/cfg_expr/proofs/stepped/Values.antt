@@ -1,6 +1,8 @@
 -- The steps of a tree leave its value on the stack.
-use Rattle.std.proofs.Common.{◌≡◌, ◌+◌, ℕ, Bool, true, false, List, [], ◌∷◌, ◌++◌, length, length-append}
-use Rattle.std.proofs.Common.{refl, sym, ap, ◌∙◌, suc, arith, append_assoc, if◌then◌else◌, Some, None}
+use Rattle.std.proofs.Common.{◌≡◌, ◌+◌, ℕ, Bool, true, false, List, [], ◌∷◌, ◌++◌, length}
+use Rattle.std.proofs.Common.{length-append}
+use Rattle.std.proofs.Common.{refl, sym, ap, ◌∙◌, suc, arith, append_assoc, if◌then◌else◌, Some}
+use Rattle.std.proofs.Common.{None}
 use Rattle.std.proofs.Common.{drop, option_and_then, reverse}
 use Rattle.std.proofs.lemmas.Bool.{le-leb}
 use Rattle.std.proofs.lemmas.Grind.{reverse_onto}

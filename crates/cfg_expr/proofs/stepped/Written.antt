@@ -1,10 +1,12 @@
 -- The nodes of a tree, one after another, write its steps.
-use Rattle.std.proofs.Common.{◌≡◌, ◌-◌, ◌<◌, ◌≤◌, ◌∙◌, ℕ, suc, Bool, List, [], ◌∷◌, ◌++◌, ap, append_assoc}
+use Rattle.std.proofs.Common.{◌≡◌, ◌-◌, ◌<◌, ◌≤◌, ◌∙◌, ℕ, suc, Bool, List, [], ◌∷◌, ◌++◌, ap}
+use Rattle.std.proofs.Common.{append_assoc}
 use Rattle.std.proofs.Common.{arith, drop, if◌then◌else◌, length, map, refl, sym}
 use Rattle.std.proofs.lemmas.Bool.{lt-leb}
 use Rattle.std.proofs.lemmas.List.{append-nil, drop_all, drop_at, map-append, take_all, take_at}
 use Rattle.cfgx_grammar.specs.Tree.{ListFunction, Tree, Trees, count, is_function, is_leaf}
-use Rattle.cfgx_parser.specs.nodes.{Prefix.{list_func, prefix, prefix_each}, Shape.{Shape, shape_of}}
+use Rattle.cfgx_parser.specs.nodes.Prefix.{list_func, prefix, prefix_each}
+use Rattle.cfgx_parser.specs.nodes.Shape.{Shape, shape_of}
 use Rattle.cfg_expr.specs.Steps.{list_step, steps_by, steps_of}
 use Rattle.cfg_expr.specs.declared.expr.steps.Open.{Open}
 use Rattle.cfg_expr.specs.declared.expr.steps.Step.{Step}
@@ -96,8 +98,13 @@ module _ {X : Type 0} where
             ≡ with_nodes shapes (ended begun front ((steps ++ passing is_function tree)
             ++ steps_by is_function trees
             ++ ((own ++ passing is_leaf tree) ++ steps_by is_leaf trees) ++ step ∷ []))
-        rest Trees.none each = ap (with_nodes shapes) (ended-last step begun front (own ++ passing is_leaf tree)
-            (steps ++ passing is_function tree) ∙ rw (append-nil (steps ++ passing is_function tree), append-nil (own ++ passing is_leaf tree)) refl)
+        rest Trees.none each = ap (with_nodes shapes)
+            (ended-last step begun front (own ++ passing is_leaf tree)
+            (steps ++ passing is_function tree)
+            ∙ rw (
+              append-nil (steps ++ passing is_function tree),
+              append-nil (own ++ passing is_leaf tree),
+            ) refl)
         rest (Trees.more next trees) each =
             ap (with_nodes (map shape_of (prefix_each (Trees.more next trees)) ++ shapes))
             (ended-more step begun front (front ++ (own ++ passing is_leaf tree))

@@ -57,7 +57,8 @@ text_of _ = []
 -- the code of a question, which no other question has
 abbrev pub code_of : Question → Code
 code_of question =
-    code_with (kind_number (kind_of question)) (number_of question) (key_of question) (text_of question)
+    code_with (kind_number (kind_of question)) (number_of question) (key_of question)
+    (text_of question)
 
 -- the order of codes: first by kind
 abbrev pub code_cmp : Code → Code → Ordering

@@ -7,7 +7,8 @@ use Rattle.std.proofs.Common.{arith, take_at, option_map, take_all, if◌then◌
 use Rattle.std.proofs.{Common.slice_get, Common.None, lemmas.Option.slice_get_within}
 use Rattle.std.proofs.{lemmas.Bool.cases_lt, lemmas.List.take-append-le, lemmas.List.length_push}
 use Rattle.cfgx_syntax.specs.Items.{Item}
-use Rattle.cfgx_grammar.specs.{FollowSet.{TokenKind, kind_of, is_kind}, Depth.{members_at, innermost}}
+use Rattle.cfgx_grammar.specs.FollowSet.{TokenKind, kind_of, is_kind}
+use Rattle.cfgx_grammar.specs.Depth.{members_at, innermost}
 use Rattle.cfgx_grammar.specs.Depth.{count_below, last_below, begins_member, depth, depth_at}
 use Rattle.cfgx_grammar.specs.parsing.State.{Function, Open, name_of}
 use Rattle.cfgx_grammar.specs.parsing.Step.{over_top, with_parens}

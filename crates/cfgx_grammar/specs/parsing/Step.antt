@@ -1,6 +1,6 @@
 -- The parser as a function: the state after a token or the fault at it, and the same at the end of
 -- the text.
-use Rattle.std.specs.Prelude.{ℕ, ◌+◌, ◌-◌, ◌==◌, Bool, true, List, [], ◌∷◌, codes, length, Option}
+use Rattle.std.specs.Prelude.{ℕ, ◌+◌, ◌-◌, ◌==◌, Bool, true, List, [], ◌∷◌, length, Option}
 use Rattle.std.specs.Prelude.{Some, None, option_map, Result, Ok, Err, if◌then◌else◌}
 use Rattle.cfgx_syntax.specs.Token.{Token}
 use Rattle.cfgx_syntax.specs.Terms as terms

@@ -69,8 +69,8 @@ pub(super) fn check_reader<A: SmallAllocator>(alloc: A, text: &str, expected: &P
 /// `any()` with its comma and spaces has ten bytes.
 pub(super) const READ: &str = r#"
 // After the first text with a node, a reader makes room for eight nodes, eight predicates of open
-// lists, eight asked predicates and eight open functions. A text that needs more of one of them makes
-// more room for it.
+// lists, eight asked predicates and eight open functions. A text that needs more of one of them
+// makes more room for it.
 a | 0 | ~not(~7~a~)~7~ | 4 | any(a,b,c,d,e,f,g) | 0 | any(a,b,c,d,e,f,g,h) | 1
 a | 0 | a | 4 | any(~a,~9~) | 3 | any(~a,~9~) | 0
 a | 0 | a | 4 | ~not(~9~a~)~9~ | 2 | ~not(~9~a~)~9~ | 0

@@ -1,7 +1,8 @@
 -- The laws of the builder of nodes: for the items of a tree its nodes are written.
 use Rattle.std.proofs.Common.{◌≡◌, ℕ, ◌+◌, true, false, List, [], ◌++◌, length, Option}
 use Rattle.std.proofs.Common.{option_map, rules, arith, Some, None, refl, ap, subst}
-use Rattle.std.{specs.Prelude.if◌then◌else◌, specs.Prelude.unwrap_or, proofs.lemmas.List.{append-nil, length_push}}
+use Rattle.std.specs.Prelude.{if◌then◌else◌, unwrap_or}
+use Rattle.std.proofs.lemmas.List.{append-nil, length_push}
 use Rattle.cfgx_syntax.specs.Items.{Item}
 use Rattle.cfgx_grammar.{specs.Question.Leaf, specs.Question.Question, specs.Classification.Class}
 use Rattle.cfgx_grammar.{specs.Classification.class, proofs.spelled.Calls, proofs.spelled.Laws}

@@ -2,4 +2,5 @@
 use Rattle.cfgx_c.proofs.decide.decide_over_bytes.Goals as goal
 
 pub returns : goal.returns
-returns c = rw (c.as_slice.ensures, c.in_ok-answers.ensures.answers) at c.in_ok-decide.ensures.decision
+returns c =
+    rw (c.as_slice.ensures, c.in_ok-answers.ensures.answers) at c.in_ok-decide.ensures.decision

@@ -17,7 +17,8 @@ read-requires-clause-next g c =
     let (tree, holds) = c.requires in
     let place = c.loop-place.place - 1 in
     let next_is : c.loop-place.place ≡ place + 1 = omega (arith, c.loop-place-test.true) in
-    let inside : place < length c.args.nodes.now = omega (arith, c.loop-place.auto.place, next_is) in
+    let inside : place < length c.args.nodes.now =
+    omega (arith, c.loop-place.auto.place, next_is) in
     let next = Reading-is holds _ inside (rw next_is at (c.loop-place.invariant tree holds)) in
     (next.0, map (entry g.T.Logic) next.1, next.3)
 
@@ -25,7 +26,8 @@ pub loop-place-preserved : goal.loop-place-preserved
 loop-place-preserved g c tree holds =
     let place = c.loop-place.place - 1 in
     let next_is : c.loop-place.place ≡ place + 1 = omega (arith, c.loop-place-test.true) in
-    let inside : place < length c.args.nodes.now = omega (arith, c.loop-place.auto.place, next_is) in
+    let inside : place < length c.args.nodes.now =
+    omega (arith, c.loop-place.auto.place, next_is) in
     let reading = rw next_is at (c.loop-place.invariant tree holds) in
     let next = Reading-is holds _ inside reading in
     Reading-next reading next.2 (c.read.ensures.entries next.0 _ next.3)

@@ -35,7 +35,8 @@ loop-step-preserved g c =
 pub returns-in_err-value-2 : goal.returns-in_err-value-2
 returns-in_err-value-2 g c =
     let running = c.loop-step.invariant.running in
-    c.from_residual-in_err-value-2.ensures ∙ run-none g.T.Logic running (omega (arith, c.loop-step-test.false))
+    c.from_residual-in_err-value-2.ensures
+    ∙ run-none g.T.Logic running (omega (arith, c.loop-step-test.false))
     (c.in_err-value-2.ensures.value running.values running.holds).0
 
 pub returns : goal.returns

@@ -18,4 +18,5 @@ returns g c =
     c.parse_and_eval.ensures shows) (λ error none. none))
 
 pub returns-in_default : goal.returns-in_default
-returns-in_default g c = rw (builtin-same _ _ (sym c.in_default.is ∙ c.in_ok-row.ensures)) c.constant.ensures
+returns-in_default g c =
+    rw (builtin-same _ _ (sym c.in_default.is ∙ c.in_ok-row.ensures)) c.constant.ensures

@@ -31,7 +31,8 @@ returns-in_err-push_line-clause-err g c =
     let left = c.loop-line.invariant.left in
     let next = yields-some left.pieces left.yields c.in-Some.line c.next.new.self
     c.in-Some.ensures.steps in
-    rw (c.loop-line.invariant.same, p.1, p.2) (IfMessage-weaker {A = g.row.A.Denot} _ _ _ (λ message prints.
+    rw (c.loop-line.invariant.same, p.1, p.2)
+    (IfMessage-weaker {A = g.row.A.Denot} _ _ _ (λ message prints.
     left.prints (faulty_output message) (PrintsRest-fault _ _ _ _ next.0 next.1
     (c.split_line.ensures ∙ ap line_of c.without_return.ensures) _ message _ prints refl))
     c.in_err-push_line.ensures.err)
