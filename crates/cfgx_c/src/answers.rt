@@ -11,7 +11,7 @@ use cfg_expr::expr::Condition;
 use smallvec::SmallVec;
 use std::alloc::{AllocError, Global};
 
-/// Returns the byte of a value.
+/// Returns the byte of a value: 0 for false, 1 for true, 2 for unknown.
 pub(crate) fn byte_of_value(value: Option<bool>) -> u8
     ensures { result ≡ byte_of_value value }
 {

@@ -32,7 +32,7 @@ fn compiled(alloc: Global, condition: &Condition<'_>) -> Result<Vec<CfgxStep>, A
 /// Returns the status `DONE`, fills `steps` and `predicates`, or neither of them if one has too
 /// little room, and writes their numbers to `steps_needed` and `predicates_needed`. Returns
 /// `FAULTY` if the text has a fault, `NOT_UTF8` if it is not UTF-8, and `OUT_OF_MEMORY` if memory
-/// was refused. With these both numbers become 0, and both buffers stay as they were.
+/// was refused. Unless the status is `DONE`, both numbers become 0, and both buffers are unchanged.
 #[unsafe(no_mangle)]
 pub extern "C" fn cfgx_compile(
     alloc: Global,

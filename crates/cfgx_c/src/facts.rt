@@ -111,9 +111,10 @@ fn find_answers(
 /// asked. Each fact is a text of its own, which `Facts::from_rustc` reads. A predicate that no fact
 /// names is false, or unknown if `otherwise` is not 0 and the predicate is not on the target.
 ///
-/// Returns the status `DONE`, and fills `answers` with a byte for each predicate: 0 for false, 1
-/// for true, 2 for unknown. Returns `BAD_ENDS` if `fact_ends` are not the ends of texts in `facts`.
-/// If they are, returns `NOT_UTF8` or `FAULTY` if the text is no condition. If it is one, returns
+/// Returns the status `DONE`, writes the number of predicates to `needed`, and fills `answers` if
+/// it has room for a byte for each: 0 for false, 1 for true, 2 for unknown. Returns `BAD_ENDS` if
+/// an end is less than the one before it, or the last one is not the length of `facts`. If they are
+/// right, returns `NOT_UTF8` or `FAULTY` if the text is no condition. If it is one, returns
 /// `FAULTY_FACT` if a fact is faulty or not UTF-8. Returns `OUT_OF_MEMORY` if memory was refused.
 /// Unless the status is `DONE`, `needed` becomes 0 and `answers` is unchanged.
 #[unsafe(no_mangle)]

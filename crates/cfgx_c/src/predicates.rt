@@ -22,8 +22,8 @@ use std::alloc::{AllocError, Global};
 pub struct CfgxPredicate {
     /// The number of the kind
     pub kind: u32,
-    /// The number of bits of a pointer or of an atomic, 65536 for the width `ptr`, or the number of
-    /// a byte order; 0 for every other kind
+    /// The number of bits of a pointer or of an atomic, 65536 for the width `ptr`, 0 for the byte
+    /// order `big` or 1 for `little`; 0 for every other kind
     pub number: u32,
     /// The start of the key, if the kind does not say it, else 0
     pub key_start: usize,
@@ -36,7 +36,7 @@ pub struct CfgxPredicate {
     pub value_end: usize,
 }
 
-/// Returns the span with `offset` more bytes before it. Without a span, returns that from 0 to 0.
+/// Returns `span` moved by `offset` bytes, or that from 0 to 0 if there is none.
 fn moved(span: Option<Span>, offset: usize) -> Span
     requires { (text : List ℕ) × CanBeCut text span × (length text + offset < 2 ^ 64) }
     ensures { result ≡ moved offset span }
@@ -67,8 +67,8 @@ fn c_predicate(predicate: LocatedPredicate, offset: usize) -> CfgxPredicate
     }
 }
 
-/// Returns the predicates of `text`, as which `condition` was read, in the order in which they are
-/// asked.
+/// Returns the predicates of `text`, from which `condition` was read, in the order in which they
+/// are asked.
 ///
 /// The error is that `alloc` refused the list.
 pub(crate) fn predicates_of(
@@ -91,9 +91,10 @@ pub(crate) fn predicates_of(
 /// Lists the predicates of a condition in the order in which they are asked. A predicate that
 /// stands twice is listed twice.
 ///
-/// Returns the status `DONE`, fills `predicates`, and writes their number to `needed`. Returns
-/// `FAULTY` if the text has a fault, `NOT_UTF8` if it is not UTF-8, and `OUT_OF_MEMORY` if memory
-/// was refused. With these `needed` becomes 0, and `predicates` stays as it was.
+/// Returns the status `DONE`, and writes the number of predicates to `needed`. Fills `predicates`
+/// if it has room for all of them, and otherwise leaves it as it was. Returns `FAULTY` if the text
+/// has a fault, `NOT_UTF8` if it is not UTF-8, and `OUT_OF_MEMORY` if memory was refused. Unless
+/// the status is `DONE`, `needed` becomes 0, and `predicates` is unchanged.
 #[unsafe(no_mangle)]
 pub extern "C" fn cfgx_predicates(
     alloc: Global,

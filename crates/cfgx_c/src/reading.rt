@@ -110,7 +110,7 @@ pub(crate) fn read_text<'r, 'a>(
     }
 }
 
-/// Reads the only text of a call.
+/// Reads the only text of a call, which is known to be UTF-8.
 ///
 /// The error is the status of the call.
 pub(crate) fn read_condition<'r, 'a>(
@@ -178,7 +178,8 @@ pub(crate) fn read_facts(alloc: Global, begin: usize, facts: &[&[u8]]) -> Result
     Ok(read)
 }
 
-/// Reads the facts of each target. Target `j` has the facts up to `target_ends[j]`.
+/// Reads the facts of each target. Target `j` has the facts from the end of the target before it up
+/// to `target_ends[j]`.
 pub(crate) fn read_targets(
     alloc: Global,
     facts: &[&[u8]],

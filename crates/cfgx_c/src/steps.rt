@@ -13,7 +13,8 @@ use std::alloc::{AllocError, Global};
 #[repr(C)]
 #[derive(Clone, Copy, Debug)]
 pub struct CfgxStep {
-    /// The number of the kind
+    /// The number of the kind: 0 for false, 1 for true, 2 for ask, 3 for `not`, 4 for `all`, 5 for
+    /// `any`
     pub kind: u32,
     /// The number of values that the step pops
     pub count: usize,
@@ -62,7 +63,7 @@ fn step_of(step: CfgxStep) -> Option<Step>
 }
 
 /// Pushes the steps that C sees as `steps` to `list`, which is empty and has room for them. Returns
-/// false if there are no such steps.
+/// false if one of `steps` is no step. `list` then has those before it.
 pub(crate) fn read_steps(steps: &[CfgxStep], list: &mut SmallVec<Step, 33, &Global>) -> bool
     requires empty { list.old.items ≡ [] }
     requires room { HasRoomFor list.old (length steps.now) }

@@ -34,7 +34,8 @@ pub struct Section<A: SmallAllocator = Global> {
     pub condition: Expression<A>,
 }
 
-// A derived `Drop` would have to hold for any allocator, and that of an expression is small.
+// A derived `Drop` would have to hold for any `Allocator`, and to drop an `Expression` takes a
+// `SmallAllocator`.
 impl<A: SmallAllocator> Drop for Section<A> {
     fn drop(self) {
         let Section {
@@ -92,7 +93,7 @@ impl From<Option<bool>> for Verdict {
     }
 }
 
-/// Asks `matcher` a predicate. It does not know predicates that are not on the target.
+/// Returns the answer of `matcher` to a predicate on the target, and `None` for any other.
 fn ask<M: TargetMatcher>(matcher: &M, predicate: &Predicate<'_>) -> Option<bool>
     ensures { result ≡ answer_by (M.answer matcher.now) (question_of predicate.now) }
 {
@@ -122,14 +123,15 @@ fn ask_each<A: SmallAllocator, M: TargetMatcher>(
 #[derive(Drop)]
 pub struct Decider<A: SmallAllocator = Global> {
     alloc: A,
-    /// What the target answered to each predicate of the last condition, in order
+    /// What the target answered to each predicate of the last condition, in order. Empty if the
+    /// last call failed
     pub answers: Vec<Option<bool>, A>,
-    /// What these answers decide
+    /// What the answers to the last condition that was decided decide
     pub decision: Decision<A>,
 }
 
 impl<A: SmallAllocator> Decider<A> {
-    /// Makes a decider without answers, whose decision is the default one. Takes no memory.
+    /// Returns a decider without answers, whose decision is `Decision::default()`. Takes no memory.
     pub fn new(alloc: A) -> Self
         ensures { result.answers.items ≡ [] }
     {

@@ -47,7 +47,7 @@ impl Word<'_> {
     }
 }
 
-/// Returns the leaf of a key that takes no value, or the fault of the value.
+/// Returns the leaf of a key that takes no value, or the fault of a value that is there.
 fn bare(leaf: ExprNode, value: Option<Word<'_>>) -> Result<ExprNode, Fault>
     ensures { class_result result ≡ located_bare leaf (option_map word_of value.entry) }
 {
@@ -72,7 +72,9 @@ fn predicate(asked: InnerPredicate, key: Word<'_>, value: Word<'_>) -> ExprNode
     })
 }
 
-/// Returns the predicate of a key that begins with `target_`, where `name` is the rest of the key.
+/// Returns the predicate of a key that begins with `target_`, or the fault of the key or the value.
+/// `name` is the rest of the key. A byte order that cannot be read has the reason of a number, as
+/// in `cfg-expr`.
 fn classify_target(name: &str, key: Word<'_>, value: Word<'_>) -> Result<ExprNode, Fault>
     ensures { class_result result ≡ located_target name.now (word_of key.entry)
         (word_of value.entry) }
@@ -105,7 +107,8 @@ fn classify_target(name: &str, key: Word<'_>, value: Word<'_>) -> Result<ExprNod
     }
 }
 
-/// Returns the predicate of a key that `classify` does not name.
+/// Returns the predicate of a key that `classify` does not name, or the fault of the key or the
+/// value.
 fn classify_other(key: Word<'_>, value: Option<Word<'_>>) -> Result<ExprNode, Fault>
     ensures { class_result result ≡ located_other (word_of key.entry)
         (option_map word_of value.entry) }
@@ -118,7 +121,7 @@ fn classify_other(key: Word<'_>, value: Option<Word<'_>>) -> Result<ExprNode, Fa
     }
 }
 
-/// Returns the predicate or the literal of a key and its value, or the fault of one of both.
+/// Returns the predicate or the literal of a key and its value, or the fault of either.
 #[tactic(auto, unfolding(cfgx_grammar::specs::Classification::class))]
 pub(crate) fn classify(pending: &Pending<'_>) -> Result<ExprNode, Fault>
     ensures { class_result result ≡ classified (pending_of pending.now) }

@@ -6,7 +6,7 @@ ghost use Rattle.cfgx_parser.specs.nodes.Located.{question_with, target_with};
 use crate::nodes::{InnerPredicate, InnerTarget};
 use cfgx_fields::text_key::TextKey;
 
-/// A kind of predicates. Predicates of two kinds are never the same.
+/// A kind of predicates. Predicates of different kinds are never equal.
 #[derive(Clone, Copy, Debug, PartialEq, Eq)]
 pub enum Kind {
     /// A bare key without a meaning of its own
@@ -34,7 +34,8 @@ pub enum Kind {
 }
 
 impl Kind {
-    /// Returns the number of the kind, which the calls from C tell. No two kinds have the same.
+    /// Returns the number of the kind, by which callers in C know it. No two kinds have the same
+    /// number.
     pub fn number(self) -> u32
         ensures { result ≡ kind_number self }
     {

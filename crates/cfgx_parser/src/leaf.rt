@@ -14,7 +14,10 @@ use cfgx_syntax::lexer::{Lexer, Token};
 use cfgx_syntax::memory::SmallAllocator;
 use std::alloc::AllocError;
 
-/// Whether the stripped text is a key, or a key, `=` and a value, and the key is at fault.
+/// Whether `text`, without an outer `cfg( )`, is a key that is at fault, or such a key, `=` and a
+/// value.
+///
+/// The error is that `alloc` refused memory.
 pub fn is_unaskable<A: SmallAllocator>(alloc: A, text: &str) -> Result<bool, AllocError>
     ensures { IfOk result (λ is. IsTrue is ↔ IsUnaskable (strip text.now)) }
 {
@@ -73,7 +76,7 @@ fn is_faulty_key(key: &str, value: Option<&str>) -> bool
     }
 }
 
-/// Returns a word that stands at `place`, so that a fault tells which word it is in.
+/// Returns a word with an empty span at `place`, which tells the key from the value in a fault.
 fn word_at(text: &str, place: usize) -> Word<'_>
     ensures { word_of result ≡ grammar.word_of text.now place place }
 {

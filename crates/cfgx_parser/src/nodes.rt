@@ -43,7 +43,7 @@ impl From<Range<usize>> for Span {
     }
 }
 
-/// What a predicate asks of a target. The text of a `TextKey` stands where its value does.
+/// What a predicate asks of a target. For a `TextKey`, the text is at the `value` of `Located`.
 #[derive(Clone, Copy, Debug, PartialEq, Eq)]
 pub enum InnerTarget {
     /// A key whose value is any text. For `unix` and `windows` it is `Family`
@@ -91,8 +91,8 @@ pub struct Located {
 impl Located {
     ghost use Rattle.cfgx_parser.specs.nodes.Located.{HasCut, whole_span};
 
-    /// Returns the span of the whole predicate: from its key to behind the quote that ends its
-    /// value, or to the end of a key without a value.
+    /// Returns the span of the whole predicate: from its key past the closing quote of its value,
+    /// or to the end of a key without a value.
     pub fn span(&self) -> Span
         requires { (text : List ℕ) × HasCut text self.now × (length text + 1 < 2 ^ 64) }
         ensures { result ≡ whole_span self.now }
@@ -125,7 +125,7 @@ pub enum ExprNode {
     Literal(bool),
 }
 
-// The node of a function that has begun and not ended.
+/// The node of a function that has begun and not ended.
 impl Default for ExprNode {
     ghost use Rattle.cfgx_parser.specs.nodes.Node.{begun};
 
@@ -144,7 +144,7 @@ impl Default for ExprNode {
 pub(crate) struct Mark {
     /// The place of its node
     pub(crate) node: usize,
-    /// The number of predicates of open lists before it
+    /// The length of the writer's `leaves` when it began
     pub(crate) leaves: usize,
 }
 
@@ -154,8 +154,8 @@ const BYTES_PER_NODE: usize = 8;
 /// The smallest capacity for nodes that is reserved on the heap.
 const MIN_CAPACITY: usize = 3;
 
-/// The largest capacity for nodes that is reserved at once. It is 140 KiB: a block of that size
-/// grows where it stands, and is not copied.
+/// The most nodes that are reserved for the length of a text. They take 140 KiB: a block of that
+/// size grows where it stands, and is not copied.
 const MAX_CAPACITY: usize = 3584;
 
 /// The capacity that `move_to_heap` reserves for each vector.
@@ -179,7 +179,7 @@ pub(crate) struct Writer<A: SmallAllocator> {
     node_count: usize,
     /// `leaves.len()`, cached for the same reason
     leaf_count: usize,
-    /// The capacity to reserve when the nodes first move to the heap, and then 0
+    /// How many more nodes to reserve when those of this text first outgrow their room, and then 0
     first_capacity: usize,
     /// Both counts are the lengths of their vectors
     ghost counted: { (node_count ≡ length nodes.items) × (leaf_count ≡ length leaves.items) },
@@ -322,8 +322,8 @@ impl<A: SmallAllocator> Writer<A> {
         Ok(())
     }
 
-    /// Ends a list: its own predicates, which come after the first `leaves`, are asked next. Most
-    /// lists have none or one, which takes fewer steps than a slice.
+    /// Ends a list: moves its own predicates, which come after the first `leaves`, to `places`.
+    /// Most lists have none or one, and moving one takes fewer steps than moving a slice.
     #[inline(always)]
     pub(crate) fn end_list(&mut self, leaves: usize) -> Result<(), AllocError>
         ensures written { OnOk result

@@ -22,7 +22,7 @@ use smallvec::SmallVec;
 use std::alloc::AllocError;
 use std::fmt;
 
-/// A list that has not ended: the members of a function, or the root.
+/// A list that has not ended: the members of a function, or what stands outside of every function.
 #[derive(Clone, Copy)]
 pub(crate) struct OpenList {
     /// The number of its members that have ended
@@ -55,6 +55,7 @@ pub(crate) struct OpenFunc {
     around: OpenList,
 }
 
+/// Room in a vector needs a default. Nothing reads it.
 impl Default for OpenFunc {
     fn default() -> Self {
         OpenFunc {
@@ -66,7 +67,7 @@ impl Default for OpenFunc {
     }
 }
 
-/// What the parser keeps of the last token: enough to tell what may follow.
+/// What the last token was, as far as it says what may follow. `read_all` holds it.
 #[derive(Clone, Copy)]
 pub(crate) enum LastToken {
     /// No token is read yet
@@ -123,7 +124,7 @@ impl From<AllocError> for Halt {
     }
 }
 
-/// The parser of one text after another. Its state is that between two tokens.
+/// A parser that reads one text after another. Its fields hold the state after a token.
 #[derive(Drop)]
 pub struct Parser<'a, A: SmallAllocator> {
     /// The functions that are open, the innermost last
@@ -161,8 +162,8 @@ fn may_follow(last: LastToken, token: Token<'_>) -> bool
     }
 }
 
-/// Returns the reason of a token that may not stand there: what was expected after the last token,
-/// or at the start.
+/// Returns the reason of a token that may not follow `last`: what was expected there. Commas may
+/// repeat, as in `cfg-expr`, and the list after a comma names neither `,` nor the functions.
 fn expected(last: LastToken) -> Reason
     ensures { cause_of result ≡ unexpected (expected (token_like last)) }
 {
@@ -260,8 +261,10 @@ impl<'a, A: SmallAllocator> Parser<'a, A> {
     }
 
     /// Clears the state for a text of `len` bytes, and keeps the memory. Moves the vectors to the
-    /// heap if the last text wrote a node and left `leaves` inline. No fault is left from the last
-    /// text: `failure` has taken it.
+    /// heap if a node was written since the last restart and `leaves` is inline. The fault of the
+    /// last text stays, and nothing reads it before `halt` replaces it.
+    ///
+    /// The error is that the allocator refused memory.
     #[inline(always)]
     pub fn restart(&mut self, len: usize) -> Result<(), AllocError>
         ensures { state_of self.new ≡ initial }
@@ -286,8 +289,8 @@ impl<'a, A: SmallAllocator> Parser<'a, A> {
         Halt::Fault
     }
 
-    /// Returns the failure of a text at which parsing stopped. That of a fault has a copy of the
-    /// text, for which memory may be refused.
+    /// Returns the failure for `halt`. That for a fault has a copy of the text, and is `Memory` if
+    /// memory for it is refused.
     fn failure(&self, alloc: A, original: &str, halt: Halt) -> Failure<A>
         ensures { FailsAsHalted original.now halt self.now result }
     {
@@ -395,6 +398,7 @@ impl<'a, A: SmallAllocator> Parser<'a, A> {
         self.list = top.around;
         self.writer
             .end_function(top.mark, func_of(top.kind, members))?;
+        // The function is a member of the list around it.
         self.count_member();
         Ok(())
     }
@@ -415,7 +419,7 @@ impl<'a, A: SmallAllocator> Parser<'a, A> {
         }
     }
 
-    /// Takes a token that may stand after the last one.
+    /// Applies a token that may stand after the last one.
     fn apply(&mut self, lexed: LexerToken<'a>) -> Result<(), Halt>
         requires quoted { IsQuoted lexed }
         ensures { Gives result self.new
@@ -440,7 +444,7 @@ impl<'a, A: SmallAllocator> Parser<'a, A> {
         Ok(())
     }
 
-    /// Takes a token after the last one, or at the start.
+    /// Applies a token if it may follow `last`, and otherwise halts with what was expected.
     fn read(&mut self, last: LastToken, lexed: LexerToken<'a>) -> Result<(), Halt>
         requires quoted { IsQuoted lexed }
         ensures { Gives result self.new
@@ -452,7 +456,8 @@ impl<'a, A: SmallAllocator> Parser<'a, A> {
         self.apply(lexed)
     }
 
-    /// Ends the list of roots of a text of `len` bytes. There must be exactly one root.
+    /// Ends what stands outside of every function, in a text of `len` bytes. Anything but one
+    /// member there is a fault.
     fn end_roots(&mut self, len: usize) -> Result<(), Halt>
         requires { self.old.func_stack.items ≡ [] }
         ensures { Gives result self.new (one_root len (state_of self.old)) }
@@ -465,7 +470,7 @@ impl<'a, A: SmallAllocator> Parser<'a, A> {
         }
     }
 
-    /// Ends a text of `len` bytes in which no value is missing. No function may be open.
+    /// Ends a text of `len` bytes in which no value is missing. An open function is a fault.
     fn end_text(&mut self, len: usize) -> Result<(), Halt>
         ensures { Gives result self.new (concluded (state_of self.old) len) }
     {
@@ -487,7 +492,8 @@ impl<'a, A: SmallAllocator> Parser<'a, A> {
         self.end_text(len)
     }
 
-    /// Reads all tokens of the lexer, to the end of the text.
+    /// Reads all tokens of the lexer, to the end of the text. The parser has to be new or
+    /// restarted. If the result is `Ok`, `nodes` and `places` have the tree of the text.
     ///
     /// The error is the first fault of the text, or that the call is out of memory.
     pub fn read_all(&mut self, alloc: A, lexer: Lexer<'a, A>) -> Result<(), Failure<A>>

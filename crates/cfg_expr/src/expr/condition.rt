@@ -153,7 +153,8 @@ impl<'a> Condition<'a> {
         filling::decide(alloc, self, answers, decision)
     }
 
-    /// Returns the two fillings of `decide`, as `Expression::polar_fillings` does.
+    /// Returns the two fillings of `decide`, or `None` if the value is known, as
+    /// `Expression::polar_fillings` does.
     ///
     /// # Errors
     ///
@@ -232,8 +233,8 @@ impl<'a, A: SmallAllocator> ConditionReader<'a, A> {
         }
     }
 
-    /// Reads a text, which may stand in `cfg( )`. The condition borrows the text, and lasts until
-    /// the next one is read.
+    /// Reads a text, which may stand in `cfg( )`, and returns its condition, which borrows the
+    /// text. The condition can be used until the next call of `read`.
     ///
     /// # Errors
     ///

@@ -5,7 +5,7 @@
 //! Unread answers occupy the front of the slots, and the stack occupies the back. They never
 //! overlap, since each node has one slot and pushes one entry. The nodes are in the order of the
 //! text. Predicates are asked in another order: for each function, first those below its member
-//! functions, and then its own members.
+//! functions, and then those that are its own members.
 ghost use Rattle.std.specs.Prelude.{◌≡◌, ◌<◌, ◌≤◌, ◌+◌, ◌∷◌, ℕ, List, Some, IfOk, IsSome, OnErr};
 ghost use Rattle.std.specs.Prelude.{IsOk, length, map, set, get_or, take, drop};
 ghost use Rattle.std.specs.Iterator.{AlwaysYields, IsFinite};
@@ -43,7 +43,7 @@ pub(crate) enum Slot<T> {
     Function(T),
 }
 
-/// What a subtree is.
+/// Whether a subtree is a leaf or a function.
 #[derive(Clone, Copy)]
 pub(crate) enum Form {
     /// A predicate or a literal
@@ -278,7 +278,8 @@ where
     ep(&predicate)
 }
 
-/// Asks `ep` each of the predicates, and puts each answer into the slot at the place beside it.
+/// Asks `ep` each predicate, and puts its answer into the slot at its place. `places` has the
+/// places in the same order.
 fn ask_each<EP, T>(places: &[usize], predicates: Predicates<'_>, slots: &mut [Slot<T>], ep: &mut EP)
 where
     EP: FnMut(&Predicate<'_>) -> T,
@@ -313,7 +314,7 @@ fn put_each<T: Logic, I: Iterator<Item = T> + Drop>(
 
 /// Returns the value of the condition, and asks `ep` for the answer to each predicate.
 ///
-/// Returns an error if `alloc` refuses memory for the slots. `ep` is as it was then.
+/// Returns an error if `alloc` refuses memory for the slots. `ep` is then as it was.
 pub(crate) fn eval<EP, T, A>(
     alloc: A,
     condition: &Condition<'_>,

@@ -172,6 +172,7 @@ pub(crate) fn decide<A: SmallAllocator>(
         × IsDecision one.tree answers.now decision.new) }
     ensures refused { OnErr result (held decision.new ≡ held decision.old) }
 {
+    // In the logic of `Option<bool>`, `None` is unknown.
     if let Some(value) = evaluating::eval_over_answers(alloc, condition, answers)? {
         *decision = Decision::Known(value);
         return Ok(());

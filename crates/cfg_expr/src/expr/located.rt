@@ -10,7 +10,8 @@ use cfgx_parser::kinds::Kind;
 use cfgx_parser::nodes::{ExprNode, InnerPredicate, InnerTarget, Located, Span};
 use std::marker::Model;
 
-/// A predicate where it stands. Spans are ranges of the bytes of the condition's text.
+/// A predicate where it stands: its kind, its number and its spans. Spans are ranges of the bytes
+/// of the condition's text.
 #[derive(Clone, Copy, Debug)]
 pub struct LocatedPredicate {
     /// The kind
@@ -18,7 +19,7 @@ pub struct LocatedPredicate {
     /// The number of bits of a pointer or of an atomic, 65536 for the width `ptr`, 0 for the byte
     /// order `big` or 1 for `little`; 0 for every other kind
     pub number: u32,
-    /// The span of the key, if the kind does not say it
+    /// The span of the key of a `Flag` or a `KeyValue`, and `None` for every other kind
     pub key: Option<Span>,
     /// The span of the value without its quotes, or of `unix` or `windows`, if there is one and
     /// the number does not say it
@@ -60,7 +61,7 @@ fn number_of(predicate: InnerPredicate) -> u32
     }
 }
 
-/// Returns the span of the key, if the kind does not say it.
+/// Returns the span of the key of a `Flag` or a `KeyValue`.
 fn key_span(predicate: Located) -> Option<Span>
     ensures { result ≡ key_span predicate.key predicate.asked }
 {
@@ -70,7 +71,8 @@ fn key_span(predicate: Located) -> Option<Span>
     }
 }
 
-/// Returns the span of the value, if there is one and the number does not say it.
+/// Returns the span of the value, or of `unix` or `windows`, if there is one and the number does
+/// not say it.
 fn value_span(predicate: Located) -> Option<Span>
     ensures { result ≡ value_span predicate.value predicate.asked }
 {

@@ -17,7 +17,7 @@ pub trait TargetMatcher {
     ghost use Rattle.std.specs.Prelude.{Bool};
     ghost use Rattle.cfgx_grammar.specs.Question.{TargetQuestion};
 
-    /// The answer to a predicate, which depends on the two values alone.
+    /// The answer to a predicate, which depends on the target and the predicate alone.
     ghost answer: { Self → TargetQuestion → Bool };
 
     /// Whether the predicate `tp` is true of this target.
@@ -25,8 +25,8 @@ pub trait TargetMatcher {
         ensures { result ≡ answer self.now (target_of tp.now) };
 }
 
-/// A missing field is read as `""` for the binary interface and the environment, `none` for the
-/// operating system, and `unknown` for the vendor.
+/// A missing `abi` or `env` is read as `""`, a missing `os` as `none`, and a missing `vendor` as
+/// `unknown`.
 impl<A: Allocator> TargetMatcher for TargetInfo<'_, A> {
     ghost answer = { meets };
 
@@ -108,7 +108,7 @@ impl<'a, A: Allocator> TargetPredicate<'a, A> {
     /// Returns an equal predicate. A borrowed text is borrowed again and takes no memory; an owned
     /// one is copied into `alloc`.
     ///
-    /// The error is that `alloc` refused the copy. This predicate stays as it was either way.
+    /// The error is that `alloc` refused the copy.
     pub fn try_clone(&self, alloc: A) -> Result<Self, AllocError>
         ensures { IfOk result (λ copy. copy ≡ self.now) }
     {

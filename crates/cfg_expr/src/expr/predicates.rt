@@ -19,7 +19,7 @@ use cfgx_parser::nodes::{ExprNode, InnerPredicate, InnerTarget, Located};
 use std::alloc::{Allocator, Global};
 use std::marker::Model;
 
-/// A predicate on the target that is compiled for.
+/// A predicate on the target for which a crate is compiled.
 #[derive(Drop)]
 #[derive_where(Debug)]
 pub enum TargetPredicate<'a, A: Allocator = Global> {
@@ -45,7 +45,8 @@ pub enum TargetPredicate<'a, A: Allocator = Global> {
     Vendor(Vendor<'a, A>),
 }
 
-/// A predicate of a condition. Its texts are those of the expression.
+/// A predicate of a condition. The texts of one that `Predicates` yields are those of the
+/// condition.
 #[derive(Drop)]
 #[derive_where(Debug)]
 pub enum Predicate<'a, A: Allocator = Global> {
@@ -72,8 +73,8 @@ pub enum Predicate<'a, A: Allocator = Global> {
     },
 }
 
-/// Two predicates on targets are equal if they are of one kind and have equal texts, borrowed or
-/// owned.
+/// Two predicates on targets are equal if they ask the same key for the same value, whether the
+/// text is borrowed or owned.
 impl<A: Allocator> PartialEq for TargetPredicate<'_, A> {
     ghost eq = { on target_of target_eq };
 
@@ -94,7 +95,7 @@ impl<A: Allocator> Eq for TargetPredicate<'_, A> {
     ghost laws = { on_equiv target_of (on_equiv target_code nat_list_eq_equiv) };
 }
 
-/// Two predicates are equal if they are of one kind and have equal texts, wherever these lie.
+/// Two predicates are equal if they have the same kind, key and value, wherever their texts lie.
 impl<A: Allocator> PartialEq for Predicate<'_, A> {
     ghost eq = { on question_of question_eq };
 

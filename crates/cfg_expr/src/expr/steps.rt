@@ -1,4 +1,4 @@
-//! Conditions as steps, and the value of any steps.
+//! The steps of conditions, and the value of any steps.
 //!
 //! A loop with a stack of values runs the steps. The step of a function comes after those of its
 //! members, and members come in the order in which they are asked. So each step that asks takes the
@@ -68,7 +68,7 @@ impl Eq for Step {
 /// Why steps have no value over answers.
 #[derive(Debug, Drop)]
 pub enum StepsError {
-    /// Over no answers do the steps have a value.
+    /// There are no answers over which the steps have a value.
     NoValue,
     /// The steps have a value over another number of answers.
     Miscounted,
@@ -124,7 +124,8 @@ fn take_answer<T: Copy>(answers: &mut &[T]) -> Option<T>
     Some(*first)
 }
 
-/// Pops the last value and returns it, or `None` if there is none.
+/// Pops the last value and returns it, or `None` if there is none. The entries are `Option`s since
+/// a `SmallVec` needs a default, and each of them has a value.
 fn pop<T: Logic + Copy, A: SmallAllocator>(stack: &mut SmallVec<Option<T>, 33, &A>) -> Option<T>
     ensures value { (values : List T) → Holds stack.old.items values
         → (result ≡ slice_get values 0) × Holds stack.new.items (drop 1 values) }
@@ -180,7 +181,7 @@ fn take_value<T: Logic + Copy, A: SmallAllocator>(
     }
 }
 
-/// Runs the steps over `answers`, and returns their value if they have one.
+/// Runs the steps over `answers` with an empty stack, and returns their value if they have one.
 fn run_steps<T: Logic + Copy, A: SmallAllocator>(
     steps: &[Step],
     answers: &[T],
@@ -200,8 +201,8 @@ fn run_steps<T: Logic + Copy, A: SmallAllocator>(
 }
 
 /// Returns the value that the steps leave on a stack. Any list of steps may be passed. Each step
-/// that asks takes the next of the `answers`. Over answers to its predicates, in the order in which
-/// it asks them, the steps of a condition have its value.
+/// that asks takes the next of the `answers`. If the steps are those of a condition, and the
+/// answers are those to its predicates in the order in which they are asked, this is its value.
 ///
 /// Takes no memory for up to 33 steps.
 ///
@@ -232,7 +233,7 @@ pub(crate) struct Open {
     step: Step,
     /// The number of its members that have not ended
     members: usize,
-    /// The number of leaves that were written before its own
+    /// The length of the writer's `leaves` when it began
     leaves: usize,
 }
 
@@ -241,7 +242,8 @@ pub(crate) struct Open {
 pub(crate) struct Writer<A: SmallAllocator> {
     /// The functions that have begun and not ended, the innermost one last
     begun: SmallVec<Open, 2, A>,
-    /// The steps of the leaves of these functions, which come after those of member functions
+    /// The steps of leaves that wait for their function to end. Those of its member functions come
+    /// first
     leaves: SmallVec<Step, 4, A>,
     /// The other steps
     steps: Vec<Step, A>,
@@ -262,7 +264,7 @@ impl<A: SmallAllocator> Writer<A> {
         Ok(())
     }
 
-    /// Ends a member, and with it each function of which it is the last one.
+    /// Ends a member, and each function that ends with it.
     fn end_member(&mut self) -> Result<(), AllocError>
         ensures { OnOk result (written_of self.new ≡ ended (written_of self.old).begun
             (written_of self.old).leaves (written_of self.old).steps) }
@@ -301,6 +303,7 @@ impl<A: SmallAllocator> Writer<A> {
             members,
             leaves,
         })?;
+        // A function without members ends at once.
         if members == 0 {
             return self.end_member();
         }
@@ -351,7 +354,7 @@ pub fn steps_of<A: SmallAllocator>(
         steps: Vec::with_capacity(alloc, nodes.len())?,
     };
     writer.write_nodes(nodes)?;
-    // A condition without a function is one leaf.
+    // A condition without a function is one leaf, which still waits.
     writer.end_leaves(0)?;
     Ok(writer.steps)
 }

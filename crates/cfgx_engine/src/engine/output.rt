@@ -218,7 +218,8 @@ fn value_line(value: Option<bool>) -> &'static str
     }
 }
 
-/// Returns the output of a fault.
+/// Returns the output of a fault. Returns an error if `failure` is an error of memory, or if
+/// `alloc` refuses memory for the message.
 fn fault_output<A: Allocator>(alloc: A, failure: Failure<A>) -> Result<Output<A>, AllocError>
     ensures { IfOk result (λ output. ShowsFailure failure (output_view output)) }
 {

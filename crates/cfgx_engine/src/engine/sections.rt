@@ -44,14 +44,17 @@ impl<A: Allocator> From<AllocError> for LineError<A> {
 /// A line, cut at its first tab.
 #[derive(Clone, Copy)]
 enum Line<'a> {
+    /// The line has no byte
     Empty,
     /// The line has no tab
     Undivided,
+    /// What stands before the first tab, and behind it
     Section { name: &'a str, condition: &'a str },
 }
 
-/// Returns the output for `text`: the verdict of the target `row` on each section. If a line is
-/// faulty, the output is the message of the first such line alone.
+/// Returns the output for `text`: the verdict of the target `row` on each section, with the two
+/// fillings if it is unknown. If a line is faulty, the output is the message of the first such line
+/// alone.
 pub(super) fn sections_output<A: SmallAllocator>(
     alloc: A,
     row: &TargetInfo<'_, A>,

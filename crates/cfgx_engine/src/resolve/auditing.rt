@@ -30,7 +30,7 @@ pub(super) trait Answering<T> {
         ensures { InLanes (answers self.now) targets.now (question_of predicate.entry) result };
 }
 
-/// Asks matchers. They do not know predicates that are not on the target.
+/// Asks matchers. A predicate that is not on the target is unknown.
 #[derive(Drop)]
 pub(super) struct ByMatching;
 
@@ -50,8 +50,8 @@ impl<M: TargetMatcher> Answering<M> for ByMatching {
     }
 }
 
-/// Pushes the value of the condition on each target, in order. Each predicate is asked once of each
-/// target, and the condition is evaluated once for each 64 targets.
+/// Evaluates the condition on each target, and pushes each value, converted to `V`, in order. Each
+/// predicate is asked once of each target, and the condition is evaluated once for each 64 targets.
 pub(super) fn push_values<A: SmallAllocator, T, S: Answering<T>, V: From<Option<bool>> + Drop>(
     alloc: A,
     asker: &S,
@@ -72,7 +72,7 @@ pub(super) fn push_values<A: SmallAllocator, T, S: Answering<T>, V: From<Option<
     Ok(())
 }
 
-/// Pushes the value of the condition on each of at most 64 targets.
+/// Evaluates the condition on each of at most 64 targets, and pushes each value, converted to `V`.
 fn push_piece<A: SmallAllocator, T, S: Answering<T>, V: From<Option<bool>> + Drop>(
     alloc: A,
     asker: &S,
@@ -109,7 +109,7 @@ fn ask_all<A: SmallAllocator, T, S: Answering<T>>(
     Ok(answers)
 }
 
-/// Pushes the values in the first `count` lanes.
+/// Converts the values in the first `count` lanes to `V`, and pushes them.
 fn push_lanes<A: Allocator, V: From<Option<bool>> + Drop>(
     value: Kleene64,
     count: usize,

@@ -77,12 +77,12 @@ pub struct AuditError<A: Allocator = Global> {
 /// a predicate that no fact names.
 ///
 /// Each condition is read once. Targets are taken in pieces of 64: each predicate is asked once of
-/// each target, and it is evaluated once for each piece.
+/// each target, and the condition is evaluated once for each piece.
 ///
 /// # Errors
 ///
-/// `Failure::Parse`: the first faulty condition. `Failure::Memory`: `alloc` refused memory. With
-/// both, each condition before the one at `index` has no fault.
+/// `Failure::Parse`: the fault of the first faulty text. `Failure::Memory`: `alloc` refused memory.
+/// With both, each text before the one at `index` is a condition.
 pub fn audit_facts<A: SmallAllocator>(
     alloc: A,
     conditions: &[&str],

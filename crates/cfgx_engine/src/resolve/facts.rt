@@ -27,7 +27,7 @@ use std::marker::Model;
 pub enum Otherwise {
     /// False
     False,
-    /// False if the predicate is on the target, and otherwise unknown
+    /// False for a `Predicate::Target`, and unknown for every other predicate
     Unknown,
 }
 
@@ -54,14 +54,14 @@ impl Eq for Otherwise {
 #[derive(Drop)]
 #[derive_where(Debug)]
 pub enum FactsError<A: Allocator = Global> {
-    /// A fact is faulty, and every fact before it is not.
+    /// A fact is faulty, and none before it is.
     Faulty {
         /// The index of the fact
         index: usize,
-        /// What is wrong with its text, which follows the `?`
+        /// What is wrong with its text, without the `?` that it may begin with
         error: ParseError<A>,
     },
-    /// The call ran out of memory. A fact may be faulty or none.
+    /// The call ran out of memory. This does not say whether a fact is faulty.
     Memory(AllocError),
 }
 
@@ -125,7 +125,7 @@ impl<A: SmallAllocator> Model for Facts<A> {
 }
 
 impl<A: SmallAllocator> Facts<A> {
-    /// Reads facts, as `cfgx eval` does its flags.
+    /// Reads facts, as `cfgx eval` does its flags, and returns them.
     ///
     /// # Errors
     ///
@@ -137,10 +137,10 @@ impl<A: SmallAllocator> Facts<A> {
         Facts::read(alloc, flags, OnUnaskable::Refuse)
     }
 
-    /// Reads facts, such as the lines of `rustc --print cfg`. A fact that no condition can ask is
-    /// passed over: its text is a key, or a key, `=` and a value. The key begins with `target_` and
-    /// is not known, or it lacks the value that it needs, such as a bare `feature`. Some compilers
-    /// print such lines.
+    /// Reads facts, such as the lines of `rustc --print cfg`, and returns them. A fact that no
+    /// condition can ask is passed over: its text is a key, or a key, `=` and a value. The key
+    /// begins with `target_` and is not known, or it lacks the value that it needs, such as a bare
+    /// `feature`. Some compilers print such lines.
     ///
     /// # Errors
     ///

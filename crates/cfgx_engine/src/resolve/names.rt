@@ -13,7 +13,7 @@ use std::alloc::{AllocError, Allocator};
 use std::cmp::Ordering;
 use std::marker::Model;
 
-/// A predicate in parts. Parts of two predicates differ.
+/// A predicate in parts. Different predicates have different parts.
 #[derive(Clone, Copy)]
 struct Parts<'a> {
     /// The number of its kind
@@ -90,7 +90,7 @@ fn text_of<'a>(predicate: &'a Predicate<'_>) -> &'a str
     }
 }
 
-/// Returns the value of a predicate on the target, if it is a text, else an empty one.
+/// Returns the value of a predicate on the target, if it is a text or `ptr`, else an empty text.
 fn target_text<'a>(target: &'a TargetPredicate<'_>) -> &'a str
     ensures { result.now ≡ target_text (target_of target.now) }
 {
@@ -226,6 +226,7 @@ impl<A: Allocator> Names<A> {
     }
 
     /// Whether `predicate` is among those that are sorted.
+    // Inlined, so that an empty list costs no call.
     #[inline(always)]
     pub(super) fn has(&self, predicate: &Predicate<'_>) -> bool
         requires { IsSorted code_cmp self.now }

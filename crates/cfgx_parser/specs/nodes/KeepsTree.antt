@@ -1,5 +1,5 @@
--- What a `Parsed` or a `ParsedRef` keeps of its text: the nodes of its tree, and the places of the
--- predicates in the order in which they are asked.
+-- What an `Expression` or a `Condition` keeps of its text: the nodes of its tree, and the places of
+-- the predicates in the order in which they are asked.
 use Rattle.std.specs.Prelude.{◌≡◌, ℕ, List, map, Option, Some, None, option_map, option_and_then}
 use Rattle.std.specs.List.{AllByRecursion, slice_get, filter_map}
 use Rattle.cfgx_grammar.specs.Question.{Question}

@@ -27,7 +27,7 @@ pub const AFTER_EQUALS: &[&str] = &["\""];
 /// After a value.
 pub const AFTER_VALUE: &[&str] = &[",", ")"];
 
-/// After the name of a function.
+/// After the name of a function, also at the end of the text.
 pub const AFTER_FUNCTION: &[&str] = &["("];
 
 /// After `)`.
@@ -42,13 +42,14 @@ pub const FEATURE_NAME: &[&str] = &["= \"<feature_name>\""];
 /// At `panic` without a value.
 pub const PANIC_STRATEGY: &[&str] = &["= \"<panic_strategy>\""];
 
-/// At a key that begins with `target_`, without a value.
+/// At a key that begins with `target_`, known or not, without a value.
 pub const TARGET_VALUE: &[&str] = &["= \"<target_cfg_value>\""];
 
 /// At the empty value of `target_feature`.
 pub const FEATURE: &[&str] = &["<feature>"];
 
-/// At a key that begins with `target_` and is not known.
+/// At a key that begins with `target_` and is not known, with a value. `target_abi` is missing, as
+/// in `cfg-expr`.
 pub const TARGET_KEYS: &[&str] = &[
     "target_arch",
     "target_feature",
