@@ -83,10 +83,10 @@ class Header(unittest.TestCase):
             self.assertEqual(getattr(_library, name), statuses[name])
 
     def test_version(self):
-        ours = {"LANGUAGE": 2, "MAJOR": 1, "MINOR": 0}
+        ours = {"LANGUAGE": 2, "MAJOR": 2, "MINOR": 0}
         self.assertEqual({name: getattr(_library, name) for name in ours}, ours)
         self.assertEqual(numbers_of("VERSION"), ours)
-        self.assertRegex(cfgx.version(), r"^2\.1\.\d+$")
+        self.assertRegex(cfgx.version(), r"^2\.2\.\d+$")
 
     def test_structs(self):
         types = {ctypes.c_size_t: "size_t", ctypes.c_uint32: "uint32_t"}

@@ -8,7 +8,7 @@ from ctypes import POINTER, c_char_p, c_size_t, c_uint8, c_uint32
 from typing import Any, Callable, List, Optional, Sequence, Tuple
 
 NAME = "libcfgx.so.2.2"
-LANGUAGE, MAJOR, MINOR = 2, 1, 0
+LANGUAGE, MAJOR, MINOR = 2, 2, 0
 
 # The statuses that calls return.
 DONE, FAULTY, OUT_OF_MEMORY, MISCOUNTED, TOO_LARGE, FAULTY_FACT = 0, 1, 3, 5, 8, 9
