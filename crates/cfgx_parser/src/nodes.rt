@@ -144,8 +144,8 @@ impl Default for ExprNode {
 pub(crate) struct Mark {
     /// The place of its node
     pub(crate) node: usize,
-    /// The length of the writer's `leaves` when it began
-    pub(crate) leaves: usize,
+    /// The length of the writer's `waiting` when it began
+    pub(crate) waiting: usize,
 }
 
 /// The number of bytes of a text for which one node is expected.
@@ -172,17 +172,17 @@ pub(crate) struct Writer<A: SmallAllocator> {
     /// The nodes, in source order
     pub(crate) nodes: SmallVec<ExprNode, 1, A>,
     /// The places of the predicates whose list is open, those of inner lists last
-    pub(crate) leaves: SmallVec<usize, 4, A>,
+    pub(crate) waiting: SmallVec<usize, 4, A>,
     /// The places of the other predicates, in the order in which they are asked
     pub(crate) places: SmallVec<usize, 4, A>,
     /// `nodes.len()`, cached: a `SmallVec` first tests whether it is inline
     node_count: usize,
-    /// `leaves.len()`, cached for the same reason
-    leaf_count: usize,
+    /// `waiting.len()`, cached for the same reason
+    waiting_count: usize,
     /// How many more nodes to reserve when those of this text first outgrow their room, and then 0
     first_capacity: usize,
     /// Both counts are the lengths of their vectors
-    ghost counted: { (node_count ≡ length nodes.items) × (leaf_count ≡ length leaves.items) },
+    ghost counted: { (node_count ≡ length nodes.items) × (waiting_count ≡ length waiting.items) },
 }
 
 impl<A: SmallAllocator> Writer<A> {
@@ -198,10 +198,10 @@ impl<A: SmallAllocator> Writer<A> {
     {
         Writer {
             nodes: SmallVec::new(alloc),
-            leaves: SmallVec::new(alloc),
+            waiting: SmallVec::new(alloc),
             places: SmallVec::new(alloc),
             node_count: 0,
-            leaf_count: 0,
+            waiting_count: 0,
             first_capacity: capacity_for(len),
         }
     }
@@ -211,23 +211,23 @@ impl<A: SmallAllocator> Writer<A> {
         ensures { written_of self.new ≡ nothing }
     {
         self.nodes.clear();
-        self.leaves.clear();
+        self.waiting.clear();
         self.places.clear();
         self.node_count = 0;
-        self.leaf_count = 0;
+        self.waiting_count = 0;
         self.first_capacity = capacity_for(len);
     }
 
-    /// Whether a node was written since the last restart and `leaves` is inline.
+    /// Whether a node was written since the last restart and `waiting` is inline.
     pub(crate) fn is_used_inline(&self) -> bool {
-        self.node_count > 0 && !self.leaves.spilled()
+        self.node_count > 0 && !self.waiting.spilled()
     }
 
     /// Moves the vectors to the heap.
     pub(crate) fn move_to_heap(&mut self) -> Result<(), AllocError>
         ensures { written_of self.new ≡ written_of self.old }
     {
-        self.leaves.reserve(KEPT_CAPACITY)?;
+        self.waiting.reserve(KEPT_CAPACITY)?;
         self.places.reserve(KEPT_CAPACITY)?;
         self.nodes.reserve(KEPT_CAPACITY)
     }
@@ -275,9 +275,9 @@ impl<A: SmallAllocator> Writer<A> {
         let is_asked = matches!(leaf, ExprNode::Predicate(_));
         let place = self.push_node(leaf)?;
         if is_asked {
-            self.leaves.push(place)?;
-            prove!(self.leaf_count < self.leaves.len());
-            self.leaf_count += 1;
+            self.waiting.push(place)?;
+            prove!(self.waiting_count < self.waiting.len());
+            self.waiting_count += 1;
         }
         Ok(())
     }
@@ -291,53 +291,53 @@ impl<A: SmallAllocator> Writer<A> {
         ensures kept { KeepsNodes (written_of self.old) (written_of self.new) }
     {
         let node = self.push_node(ExprNode::default())?;
-        let leaves = self.leaf_count;
-        Ok(Mark { node, leaves })
+        let waiting = self.waiting_count;
+        Ok(Mark { node, waiting })
     }
 
     /// Ends a list that has one predicate of its own.
-    fn end_leaf(&mut self) -> Result<(), AllocError>
+    fn end_list_of_one(&mut self) -> Result<(), AllocError>
         ensures written { OnOk result (written_of self.new
-            ≡ with_list_ended (length (written_of self.old).leaves - 1) (written_of self.old)) }
+            ≡ with_list_ended (length (written_of self.old).waiting - 1) (written_of self.old)) }
         ensures kept { KeepsNodes (written_of self.old) (written_of self.new) }
     {
-        if let Some(place) = self.leaves.pop() {
-            self.leaf_count -= 1;
+        if let Some(place) = self.waiting.pop() {
+            self.waiting_count -= 1;
             self.places.push(place)?;
         }
         Ok(())
     }
 
-    /// Ends a list whose own predicates come after the first `leaves`.
-    fn end_leaves(&mut self, leaves: usize) -> Result<(), AllocError>
-        requires { leaves ≤ length (written_of self.old).leaves }
+    /// Ends a list whose own predicates are those of `waiting` from `begin` on.
+    fn end_list_of_many(&mut self, begin: usize) -> Result<(), AllocError>
+        requires { begin ≤ length (written_of self.old).waiting }
         ensures written { OnOk result
-            (written_of self.new ≡ with_list_ended leaves (written_of self.old)) }
+            (written_of self.new ≡ with_list_ended begin (written_of self.old)) }
         ensures kept { KeepsNodes (written_of self.old) (written_of self.new) }
     {
         self.places
-            .extend_from_slice(&self.leaves.as_slice()[leaves..])?;
-        self.leaves.truncate(leaves);
-        self.leaf_count = leaves;
+            .extend_from_slice(&self.waiting.as_slice()[begin..])?;
+        self.waiting.truncate(begin);
+        self.waiting_count = begin;
         Ok(())
     }
 
-    /// Ends a list: moves its own predicates, which come after the first `leaves`, to `places`.
-    /// Most lists have none or one, and moving one takes fewer steps than moving a slice.
+    /// Ends a list: moves its own predicates, those of `waiting` from `begin` on, to `places`. Most
+    /// lists have none or one, and moving one takes fewer steps than moving a slice.
     #[inline(always)]
-    pub(crate) fn end_list(&mut self, leaves: usize) -> Result<(), AllocError>
+    pub(crate) fn end_list(&mut self, begin: usize) -> Result<(), AllocError>
         ensures written { OnOk result
-            (written_of self.new ≡ with_list_ended leaves (written_of self.old)) }
+            (written_of self.new ≡ with_list_ended begin (written_of self.old)) }
         ensures kept { KeepsNodes (written_of self.old) (written_of self.new) }
     {
-        let count = self.leaf_count;
-        if count <= leaves {
+        let count = self.waiting_count;
+        if count <= begin {
             return Ok(());
         }
-        if count - leaves == 1 {
-            return self.end_leaf();
+        if count - begin == 1 {
+            return self.end_list_of_one();
         }
-        self.end_leaves(leaves)
+        self.end_list_of_many(begin)
     }
 
     /// Completes the node of a function whose members are all written.
@@ -358,6 +358,6 @@ impl<A: SmallAllocator> Writer<A> {
         ensures kept { KeepsNodes (written_of self.old) (written_of self.new) }
     {
         self.complete(mark.node, func);
-        self.end_list(mark.leaves)
+        self.end_list(mark.waiting)
     }
 }

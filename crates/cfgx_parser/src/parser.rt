@@ -61,7 +61,10 @@ impl Default for OpenFunc {
         OpenFunc {
             kind: FuncKind::Not,
             span: Span { start: 0, end: 0 },
-            mark: Mark { node: 0, leaves: 0 },
+            mark: Mark {
+                node: 0,
+                waiting: 0,
+            },
             around: OpenList::new(),
         }
     }
@@ -261,7 +264,7 @@ impl<'a, A: SmallAllocator> Parser<'a, A> {
     }
 
     /// Clears the state for a text of `len` bytes, and keeps the memory. Moves the vectors to the
-    /// heap if a node was written since the last restart and `leaves` is inline. The fault of the
+    /// heap if a node was written since the last restart and `waiting` is inline. The fault of the
     /// last text stays, and nothing reads it before `halt` replaces it.
     ///
     /// The error is that the allocator refused memory.

@@ -6,19 +6,19 @@ pub use Rattle.cfgx_parser.specs.declared.nodes.Mark.{Mark}
 use Rattle.cfgx_parser.specs.declared.nodes.ExprNode.{ExprNode}
 use Rattle.cfgx_parser.specs.declared.nodes.ExprNode.TheVariants as node
 
--- `nodes` are in source order. `leaves` are the places of the predicates whose list has not ended,
+-- `nodes` are in source order. `waiting` are the places of the predicates whose list has not ended,
 -- those of inner lists last. `places` are those of the other predicates, in the order in which they
 -- are asked.
 pub record Written : Type 0 where
   pub nodes : List ExprNode
-  pub leaves : List ℕ
+  pub waiting : List ℕ
   pub places : List ℕ
 
 abbrev pub nothing : Written
-nothing = record { nodes = []; leaves = []; places = [] }
+nothing = record { nodes = []; waiting = []; places = [] }
 
 abbrev pub mark_of : Written → Mark
-mark_of w = record { node = length w.nodes; leaves = length w.leaves }
+mark_of w = record { node = length w.nodes; waiting = length w.waiting }
 
 -- the place of a node, if it is a predicate
 abbrev pub asked_at : ExprNode → ℕ → List ℕ
@@ -34,7 +34,7 @@ with_node written w = record w { nodes = w.nodes ++ written ∷ [] }
 abbrev pub with_leaf : ExprNode → Written → Written
 with_leaf leaf w = record w {
   nodes = w.nodes ++ leaf ∷ [];
-  leaves = w.leaves ++ asked_at leaf (length w.nodes);
+  waiting = w.waiting ++ asked_at leaf (length w.nodes);
 }
 
 -- the node of a function that has not ended: the numbers of its members and nodes are not known
@@ -44,12 +44,12 @@ begun = node.Fn Not 0
 abbrev pub with_function : Written → Written
 with_function w = with_node begun w
 
--- A list ends. Its own predicates, which come after the first `leaves`, are asked next.
+-- A list ends. Its own predicates, those of `waiting` from `begin` on, are asked next.
 abbrev pub with_list_ended : ℕ → Written → Written
-with_list_ended leaves w = record w {
-  leaves = take leaves w.leaves;
+with_list_ended begin w = record w {
+  waiting = take begin w.waiting;
   places = w.places
-      ++ drop leaves w.leaves;
+      ++ drop begin w.waiting;
 }
 
 -- the node of a function whose members are all written is completed
@@ -59,4 +59,4 @@ completed place func w =
 
 -- the function that began at the mark ends
 abbrev pub with_function_ended : Mark → Func → Written → Written
-with_function_ended mark func w = with_list_ended mark.leaves (completed mark.node func w)
+with_function_ended mark func w = with_list_ended mark.waiting (completed mark.node func w)

@@ -4,7 +4,7 @@ use Rattle.cfgx_parser.specs.nodes.Node.{Written}
 use Rattle.cfgx_parser.specs.declared.nodes.Writer.{Writer}
 
 abbrev pub written_of : {A : Type 0} → Writer A → Written
-written_of w = record { nodes = w.nodes.items; leaves = w.leaves.items; places = w.places.items }
+written_of w = record { nodes = w.nodes.items; waiting = w.waiting.items; places = w.places.items }
 
 -- no node is lost, and if the number of nodes did fit in a `usize`, it still does
 abbrev pub KeepsNodes : Written → Written → Type 0

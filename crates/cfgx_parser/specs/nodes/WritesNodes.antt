@@ -42,5 +42,5 @@ pub record WritesNodes (text : List ℕ) (old new : Written) (shown : List (Node
   pub nodes_are : new.nodes ≡ old.nodes ++ added
   pub shown_are : map (node_at text) added ≡ shown
   pub cuts : AllByRecursion (NodeHasCut text) added
-  pub leaves_are : new.leaves ≡ old.leaves ++ own
+  pub waiting_are : new.waiting ≡ old.waiting ++ own
   pub places_are : new.places ≡ old.places ++ inner
