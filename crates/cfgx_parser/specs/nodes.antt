@@ -6,5 +6,5 @@ pub mod Node
 pub mod Prefix
 pub mod ReadFrom
 pub mod Shape
-pub mod Writer
+pub mod NodeWriter
 pub mod WritesNodes

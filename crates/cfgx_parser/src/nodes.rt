@@ -168,7 +168,7 @@ fn capacity_for(len: usize) -> usize {
 
 /// The nodes of a tree while they are written, in one pass over the text.
 #[derive(Drop)]
-pub(crate) struct Writer<A: SmallAllocator> {
+pub(crate) struct NodeWriter<A: SmallAllocator> {
     /// The nodes, in source order
     pub(crate) nodes: SmallVec<ExprNode, 1, A>,
     /// The places of the predicates whose list is open, those of inner lists last
@@ -185,18 +185,18 @@ pub(crate) struct Writer<A: SmallAllocator> {
     ghost counted: { (node_count ≡ length nodes.items) × (waiting_count ≡ length waiting.items) },
 }
 
-impl<A: SmallAllocator> Writer<A> {
+impl<A: SmallAllocator> NodeWriter<A> {
     ghost use Rattle.smallvec.specs.SmallVec.{HasRoomFor};
     ghost use Rattle.cfgx_parser.specs.nodes.Node.{nothing, mark_of, with_leaf, with_function};
     ghost use Rattle.cfgx_parser.specs.nodes.Node.{with_node};
     ghost use Rattle.cfgx_parser.specs.nodes.Node.{with_list_ended, with_function_ended, completed};
-    ghost use Rattle.cfgx_parser.specs.nodes.Writer.{written_of, KeepsNodes};
+    ghost use Rattle.cfgx_parser.specs.nodes.NodeWriter.{written_of, KeepsNodes};
 
     /// Returns a writer that has written nothing of a text of `len` bytes.
     pub(crate) fn new(alloc: A, len: usize) -> Self
         ensures { written_of result ≡ nothing }
     {
-        Writer {
+        NodeWriter {
             nodes: SmallVec::new(alloc),
             waiting: SmallVec::new(alloc),
             places: SmallVec::new(alloc),

@@ -14,7 +14,7 @@ ghost use Rattle.cfgx_parser.specs.parsing.Fields.{counted_around};
 
 use crate::classification::{Fault, Pending, Word, classify};
 use crate::function::{Func, FuncKind};
-use crate::nodes::{ExprNode, KEPT_CAPACITY, Mark, Span, Writer};
+use crate::nodes::{ExprNode, KEPT_CAPACITY, Mark, NodeWriter, Span};
 use cfgx_syntax::error::{Failure, Reason, terms};
 use cfgx_syntax::lexer::{Lexer, LexerToken, Token};
 use cfgx_syntax::memory::SmallAllocator;
@@ -135,7 +135,7 @@ pub struct Parser<'a, A: SmallAllocator> {
     /// The innermost open list. It is not on the stack, so that counting a member is cheap
     list: OpenList,
     /// The nodes of what has ended
-    writer: Writer<A>,
+    writer: NodeWriter<A>,
     /// The predicate or literal that has begun and not ended
     pending: Option<Pending<'a>>,
     /// The fault at which parsing stopped last. It is here, and not in `Halt`, since every step
@@ -244,7 +244,7 @@ impl<'a, A: SmallAllocator> Parser<'a, A> {
         Parser {
             func_stack: SmallVec::new(alloc),
             list: OpenList::new(),
-            writer: Writer::new(alloc, len),
+            writer: NodeWriter::new(alloc, len),
             pending: None,
             fault: Fault {
                 reason: Reason::Empty,
@@ -538,7 +538,7 @@ impl<'a, A: SmallAllocator> Parser<'a, A> {
         ensures places { result.1 ≡ self.entry.writer.places }
     {
         let Parser { writer, .. } = self;
-        let Writer { nodes, places, .. } = writer;
+        let NodeWriter { nodes, places, .. } = writer;
         (nodes, places)
     }
 }

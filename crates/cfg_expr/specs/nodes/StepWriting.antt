@@ -6,7 +6,7 @@ use Rattle.cfgx_parser.specs.declared.function.Func.TheVariants as func
 use Rattle.cfg_expr.specs.declared.expr.steps.Open.{Open}
 use Rattle.cfg_expr.specs.declared.expr.steps.Step.{Step}
 use Rattle.cfg_expr.specs.declared.expr.steps.Step.TheVariants.{Ask, Literal, Not, All, Any}
-use Rattle.cfg_expr.specs.declared.expr.steps.Writer.{Writer}
+use Rattle.cfg_expr.specs.declared.expr.steps.StepWriter.{StepWriter}
 
 -- The functions that have not ended, the innermost one first; the steps of their own leaves; and
 -- all steps in front of those.
@@ -18,7 +18,7 @@ pub record Written : Type 0 where
 abbrev pub nothing : Written
 nothing = record { begun = []; leaves = []; steps = [] }
 
-abbrev pub written_of : {A : Type 0} → Writer A → Written
+abbrev pub written_of : {A : Type 0} → StepWriter A → Written
 written_of w = record {
   begun = reverse w.begun.items;
   leaves = w.leaves.items;

@@ -239,7 +239,7 @@ pub(crate) struct Open {
 
 /// The steps of a condition while they are written, in one pass over its nodes.
 #[derive(Drop)]
-pub(crate) struct Writer<A: SmallAllocator> {
+pub(crate) struct StepWriter<A: SmallAllocator> {
     /// The functions that have begun and not ended, the innermost one last
     begun: SmallVec<Open, 2, A>,
     /// The steps of leaves that wait for their function to end. Those of its member functions come
@@ -249,7 +249,7 @@ pub(crate) struct Writer<A: SmallAllocator> {
     steps: Vec<Step, A>,
 }
 
-impl<A: SmallAllocator> Writer<A> {
+impl<A: SmallAllocator> StepWriter<A> {
     /// Moves all leaves but the first `count` to the end of the steps.
     fn end_leaves(&mut self, count: usize) -> Result<(), AllocError>
         ensures begun { self.new.begun ≡ self.old.begun }
@@ -348,7 +348,7 @@ pub fn steps_of<A: SmallAllocator>(
     ensures { IfOk result (λ steps. AreSteps condition.now steps.items) }
 {
     let nodes = condition.nodes();
-    let mut writer = Writer {
+    let mut writer = StepWriter {
         begun: SmallVec::new(alloc),
         leaves: SmallVec::new(alloc),
         steps: Vec::with_capacity(alloc, nodes.len())?,

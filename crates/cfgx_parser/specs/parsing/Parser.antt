@@ -14,7 +14,7 @@ use Rattle.cfgx_syntax.specs.declared.error.Failure.TheVariants as failure
 use Rattle.cfgx_syntax.specs.declared.lexer.LexerToken.{LexerToken}
 use Rattle.cfgx_syntax.specs.declared.lexer.Token.{Token}
 use Rattle.cfgx_syntax.specs.declared.lexer.Token.TheVariants as given
-use Rattle.cfgx_parser.specs.nodes.Writer.{written_of}
+use Rattle.cfgx_parser.specs.nodes.NodeWriter.{written_of}
 use Rattle.cfgx_grammar.specs.parsing.State.{Function, Pending}
 use Rattle.cfgx_parser.specs.nodes.Node.{Written, with_leaf}
 use Rattle.cfgx_parser.specs.parsing.NodeState.{ParserState, classified}

@@ -1,6 +1,6 @@
 use Rattle.std.proofs.lemmas.Grind.{common_steps}
 use Rattle.cfgx_parser.proofs.Rooms.{arith, room}
-use Rattle.cfgx_parser.proofs.nodes.Writer.push_leaf.Goals as goal
+use Rattle.cfgx_parser.proofs.nodes.NodeWriter.push_leaf.Goals as goal
 
 pub push-requires : goal.push-requires
 push-requires g c = room _ _ _ g.met.A.SmallAllocator.small (omega arith)

@@ -2,7 +2,7 @@
 use Rattle.std.proofs.Common.{◌≡◌, drop, map}
 use Rattle.cfgx_parser.specs.nodes.Shape.{shape}
 use Rattle.cfg_expr.specs.nodes.StepWriting.{with_nodes, written_of}
-use Rattle.cfg_expr.proofs.expr.steps.Writer.write_nodes.Given as goal
+use Rattle.cfg_expr.proofs.expr.steps.StepWriter.write_nodes.Given as goal
 
 abbrev pub invariant-loop-node : goal.invariant-loop-node
 invariant-loop-node g l = with_nodes (map shape (drop l.node-index l.nodes)) (written_of l.self)

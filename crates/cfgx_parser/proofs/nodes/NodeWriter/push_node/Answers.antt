@@ -1,5 +1,5 @@
 use Rattle.cfgx_parser.proofs.Rooms.{arith, room, rules}
-use Rattle.cfgx_parser.proofs.nodes.Writer.push_node.Goals as goal
+use Rattle.cfgx_parser.proofs.nodes.NodeWriter.push_node.Goals as goal
 
 pub len-requires : goal.len-requires
 len-requires g c = room _ _ _ g.met.A.SmallAllocator.small (omega arith)

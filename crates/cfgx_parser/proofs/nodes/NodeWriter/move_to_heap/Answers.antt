@@ -1,5 +1,5 @@
 use Rattle.cfgx_parser.proofs.Rooms.{arith, room}
-use Rattle.cfgx_parser.proofs.nodes.Writer.move_to_heap.Goals as goal
+use Rattle.cfgx_parser.proofs.nodes.NodeWriter.move_to_heap.Goals as goal
 
 pub reserve-requires : goal.reserve-requires
 reserve-requires g c = room _ _ _ g.met.A.SmallAllocator.small (omega arith)

@@ -1,7 +1,7 @@
 -- The vectors of a writer fit in memory, and are empty.
 use Rattle.std.proofs.Common.{sym, ap, length}
 use Rattle.cfgx_parser.proofs.Rooms.{arith, room}
-use Rattle.cfgx_parser.proofs.nodes.Writer.restart.Goals as goal
+use Rattle.cfgx_parser.proofs.nodes.NodeWriter.restart.Goals as goal
 
 pub clear-requires : goal.clear-requires
 clear-requires g c = room _ _ _ g.met.A.SmallAllocator.small (omega arith)

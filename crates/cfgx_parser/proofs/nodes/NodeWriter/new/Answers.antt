@@ -1,6 +1,6 @@
 -- The vectors of a writer fit in memory.
 use Rattle.cfgx_parser.proofs.Rooms.{arith, room}
-use Rattle.cfgx_parser.proofs.nodes.Writer.new.Goals as goal
+use Rattle.cfgx_parser.proofs.nodes.NodeWriter.new.Goals as goal
 
 pub new-requires : goal.new-requires
 new-requires g c = room _ _ _ g.met.A.SmallAllocator.small (omega arith)

@@ -1,7 +1,7 @@
 -- What is left to end gives what all of it gives.
 use Rattle.std.proofs.Common.{◌≡◌, length}
 use Rattle.cfg_expr.specs.nodes.StepWriting.{ended, written_of}
-use Rattle.cfg_expr.proofs.expr.steps.Writer.end_member.Given as goal
+use Rattle.cfg_expr.proofs.expr.steps.StepWriter.end_member.Given as goal
 
 abbrev pub invariant-loop-function : goal.invariant-loop-function
 invariant-loop-function g l =

@@ -1,6 +1,6 @@
 -- The nodes fit in memory.
 use Rattle.cfgx_parser.proofs.Rooms.{arith, room}
-use Rattle.cfgx_parser.proofs.nodes.Writer.grow.Goals as goal
+use Rattle.cfgx_parser.proofs.nodes.NodeWriter.grow.Goals as goal
 
 pub reserve-requires : goal.reserve-requires
 reserve-requires g c = room _ _ _ g.met.A.SmallAllocator.small (omega arith)
