@@ -150,14 +150,14 @@ impl<A: SmallAllocator> Expression<A> {
     /// # Errors
     ///
     /// `Failure::Parse`: the first fault of the text. `Failure::Memory`: `alloc` refused memory.
-    pub fn parse(alloc: A, original: &str) -> Result<Self, Failure<A>>
-        ensures { Answers (strip original.now) result }
+    pub fn parse(alloc: A, text: &str) -> Result<Self, Failure<A>>
+        ensures { Answers (strip text.now) result }
     {
-        let lexer = Lexer::new(alloc, original);
-        let text = lexer.original();
-        let mut parser = Parser::new(alloc, text.len());
+        let lexer = Lexer::new(alloc, text);
+        let original = lexer.original();
+        let mut parser = Parser::new(alloc, original.len());
         parser.read_all(alloc, lexer)?;
-        let original = String::from_str(alloc, text)?;
+        let original = String::from_str(alloc, original)?;
         let (nodes, places) = parser.into_parts();
         Ok(Expression {
             original,
@@ -167,10 +167,10 @@ impl<A: SmallAllocator> Expression<A> {
     }
 
     /// Does what `parse` does, under the name of Rust's trait, which has no allocator to pass.
-    pub fn from_str(alloc: A, original: &str) -> Result<Self, Failure<A>>
-        ensures { Answers (strip original.now) result }
+    pub fn from_str(alloc: A, text: &str) -> Result<Self, Failure<A>>
+        ensures { Answers (strip text.now) result }
     {
-        Self::parse(alloc, original)
+        Self::parse(alloc, text)
     }
 
     /// Copies the expression.

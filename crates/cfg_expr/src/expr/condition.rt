@@ -241,16 +241,16 @@ impl<'a, A: SmallAllocator> ConditionReader<'a, A> {
     /// `Failure::Parse`: the first fault of the text. `Failure::Memory`: the allocator refused
     /// memory. After either, the next text can be read.
     #[inline(always)]
-    pub fn read(&mut self, original: &'a str) -> Result<Condition<'_>, Failure<A>>
-        ensures { Answers (strip original.now) result }
+    pub fn read(&mut self, text: &'a str) -> Result<Condition<'_>, Failure<A>>
+        ensures { Answers (strip text.now) result }
     {
-        let lexer = Lexer::new(self.alloc, original);
-        let text = lexer.original();
-        self.parser.restart(text.len())?;
+        let lexer = Lexer::new(self.alloc, text);
+        let original = lexer.original();
+        self.parser.restart(original.len())?;
         self.parser.read_all(self.alloc, lexer)?;
         let parser = &self.parser;
         Ok(Condition {
-            original: text,
+            original,
             nodes: parser.nodes(),
             places: parser.places(),
         })

@@ -6,12 +6,12 @@ use Rattle.cfg_expr.proofs.expr.condition.ConditionReader.read.{Given.Over, Goal
 use Rattle.cfg_expr.proofs.expr.condition.ConditionReader.read.Goals as goal
 
 -- the parser starts at the text's start
-begins : (g : Over) (c : After-read_all g) → Begins {A = g.row.A.Denot} (strip c.args.original.now)
+begins : (g : Over) (c : After-read_all g) → Begins {A = g.row.A.Denot} (strip c.args.text.now)
     c.new-lexer.result c.restart.new.self
 begins g c = search rules
 
 pub returns-in_err-restart : goal.returns-in_err-restart
-returns-in_err-restart g c = Answers-memory (strip c.args.original.now) c.new-lexer.ensures.one _
+returns-in_err-restart g c = Answers-memory (strip c.args.text.now) c.new-lexer.ensures.one _
     c.from_residual.result c.from_residual.ensures.1
 
 pub returns-in_err-read_all : goal.returns-in_err-read_all
@@ -24,13 +24,13 @@ returns-in_err-read_all g c =
 pub invariant_of-result : goal.invariant_of-result
 invariant_of-result g c =
     let begun = begins g (goal.at.invariant_of-result g c).After-read_all in
-    let same = c.original-text.ensures ∙ ap (λ l. l.text) begun.lexer_is in
+    let same = c.original-original.ensures ∙ ap (λ l. l.text) begun.lexer_is in
     rw (same, c.nodes.ensures, c.places.ensures)
     (Accepted c.read_all.new.self begun c.in_ok-read_all.ensures).0
 
 pub returns : goal.returns
 returns g c =
     let begun = begins g (goal.at.returns g c).After-read_all in
-    let same = c.original-text.ensures ∙ ap (λ l. l.text) begun.lexer_is in
+    let same = c.original-original.ensures ∙ ap (λ l. l.text) begun.lexer_is in
     let accepted = Accepted c.read_all.new.self begun c.in_ok-read_all.ensures in
     (same, accepted.1, accepted.2)
