@@ -9,8 +9,10 @@ use Rattle.cfgx_grammar.specs.Question.{Question, Leaf}
 use Rattle.cfgx_grammar.specs.FollowSet.{TokenKind, takes, kind_of, next}
 use Rattle.cfgx_grammar.specs.{Tree.ListFunction, Tree.Tree, Tree.Trees, Tree.count, Grammar.IsLeaf}
 use Rattle.cfgx_grammar.specs.Grammar.{commas, Separates, IsMember, IsList, IsTree, leaf_tokens}
-use Rattle.cfgx_grammar.specs.parsing.State.{Function, Open, name_of, Word, Pending, Builder, State}
-use Rattle.cfgx_grammar.specs.{parsing.State.initial, LastPredicate.class_of, LastPredicate.word_of}
+use Rattle.cfgx_grammar.specs.parsing.State.{Function, Open, name_of, LocatedText, Pending}
+use Rattle.cfgx_grammar.specs.parsing.State.{Builder, State}
+use Rattle.cfgx_grammar.specs.{parsing.State.initial, LastPredicate.class_of}
+use Rattle.cfgx_grammar.specs.LastPredicate.{located_text}
 use Rattle.cfgx_grammar.specs.parsing.Step.{allows_count, result_map, leaf_ended, ended_by}
 use Rattle.cfgx_grammar.specs.parsing.Step.{predicate_ended, new_open, and_then, opened}
 use Rattle.cfgx_grammar.specs.parsing.Step.{member_count, function_ended, closed_by}
@@ -154,13 +156,13 @@ module _ {W M L : Type 0} {builder : Builder W M L} where
   Completes (Some Token.open_paren) s tokens = s.pending ≡ None → RestOf NoComma s 0 tokens
   Completes (Some Token.comma) s tokens = s.pending ≡ None → RestOf AnyCommas s 0 tokens
   Completes (Some Token.close_paren) s tokens = s.pending ≡ None → RestOf Separates s 0 tokens
-  Completes (Some (Token.key _)) s tokens = (key : Word)
+  Completes (Some (Token.key _)) s tokens = (key : LocatedText)
       → s.pending ≡ Some (record { key = key; value = None })
       → LeafRest s key.text (Token.key key.text ∷ tokens)
-  Completes (Some Token.equals) s tokens = (key : Word)
+  Completes (Some Token.equals) s tokens = (key : LocatedText)
       → s.pending ≡ Some (record { key = key; value = None })
       → LeafRest s key.text (Token.key key.text ∷ Token.equals ∷ tokens)
-  Completes (Some (Token.value _)) s tokens = (key value : Word)
+  Completes (Some (Token.value _)) s tokens = (key value : LocatedText)
       → s.pending ≡ Some (record { key = key; value = Some value })
       → LeafRest s key.text (leaf_tokens key.text (Some value.text) ++ tokens)
   Completes _ s tokens = (top : Open M) (rest : List (Open M)) → s.stack ≡ top ∷ rest
@@ -264,7 +266,7 @@ module _ {W M L : Type 0} {builder : Builder W M L} where
         → apply s (at token) token ≡ Ok u → After token u → Completes last s (token ∷ tokens)
     Completes-applied last (Token.key text) may does completes =
         let (value, leaf, others, are, classed, r) = subst (After (Token.key text))
-        (sym (ok_same _ u does)) completes (word_of text start end) refl in
+        (sym (ok_same _ u does)) completes (located_text text start end) refl in
         Completes-member last s _ may (λ none. rw are (Rest-member s.stack s.roots _ others
         (leaf_tree leaf) (IsMember-leaf _ leaf (text, value, refl, classed)) r))
     Completes-applied (Some Token.equals) (Token.value text) may does completes = grind arith

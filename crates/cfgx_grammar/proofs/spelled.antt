@@ -7,7 +7,8 @@ use Rattle.cfgx_syntax.specs.{Token.Token, Items.Item, Items.Ending}
 use Rattle.cfgx_grammar.specs.Question.{Leaf, Question}
 use Rattle.cfgx_grammar.specs.FollowSet.{TokenKind, takes}
 use Rattle.cfgx_grammar.specs.{Classification.Class, Classification.class, FirstFault.lacks_value}
-use Rattle.cfgx_grammar.specs.{LastPredicate.word_of, LastPredicate.class_of, parsing.State.initial}
+use Rattle.cfgx_grammar.specs.{LastPredicate.located_text, LastPredicate.class_of}
+use Rattle.cfgx_grammar.specs.parsing.State.{initial}
 use Rattle.cfgx_grammar.specs.{Tree.ListFunction, Tree.Tree, Tree.Trees, Tree.count, Grammar.IsTree}
 use Rattle.cfgx_grammar.specs.Grammar.{commas, Separates, leaf_tokens, IsCall, IsMember, IsList}
 use Rattle.cfgx_grammar.specs.parsing.State.{Function, Pending, Builder, Open, State, name_of}
@@ -20,12 +21,12 @@ use Rattle.cfgx_grammar.proofs.accepted.{leaf_tree, tokens_of, ok_same, ran}
 
 -- a pending predicate: a key, or a key with its value
 abbrev pub key_at : Item → List ℕ → Pending
-key_at x key = record { key = word_of key x.start x.end; value = None }
+key_at x key = record { key = located_text key x.start x.end; value = None }
 
 abbrev pub value_at : Item → List ℕ → Item → List ℕ → Pending
 value_at x key z value = record {
-  key = word_of key x.start x.end;
-  value = Some (word_of value (z.start + 1) (z.end - 1));
+  key = located_text key x.start x.end;
+  value = Some (located_text value (z.start + 1) (z.end - 1));
 }
 
 -- the law of a call: what is built of a function that has these members

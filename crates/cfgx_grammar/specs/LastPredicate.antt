@@ -7,25 +7,25 @@ use Rattle.cfgx_syntax.specs.{Token.Token, Items.Item}
 use Rattle.cfgx_grammar.specs.Classification.{Class, Part, class}
 
 -- a key, or a value without its quotes, with its span
-pub record Word : Type 0 where
+pub record LocatedText : Type 0 where
   pub text : List ℕ
   pub start : ℕ
   pub end : ℕ
 
-abbrev pub word_of : List ℕ → ℕ → ℕ → Word
-word_of text start end = record { text = text; start = start; end = end }
+abbrev pub located_text : List ℕ → ℕ → ℕ → LocatedText
+located_text text start end = record { text = text; start = start; end = end }
 
 -- a predicate as it stands in the text: its key, and its value if it has one
 pub record KeyAndValue : Type 0 where
-  pub key : Word
-  pub value : Option Word
+  pub key : LocatedText
+  pub value : Option LocatedText
 
 -- the predicate with this value
-abbrev pub with_value : Word → KeyAndValue → KeyAndValue
+abbrev pub with_value : LocatedText → KeyAndValue → KeyAndValue
 with_value value p = record p { value = Some value }
 
 -- the part of a predicate that is at fault; `class` names the value only if there is one
-abbrev pub part_of : KeyAndValue → Part → Word
+abbrev pub part_of : KeyAndValue → Part → LocatedText
 part_of p Part.of_key = p.key
 part_of p Part.of_value = unwrap_or p.value p.key
 
@@ -37,11 +37,11 @@ class_of p = class p.key.text (option_map (λ v. v.text) p.value)
 -- reversed
 abbrev pub predicate_of : List Token → List Item → Option KeyAndValue
 predicate_of (Token.key text ∷ _) (item ∷ _) =
-    Some (record { key = word_of text item.start item.end; value = None })
+    Some (record { key = located_text text item.start item.end; value = None })
 predicate_of (Token.value inside ∷ Token.equals ∷ Token.key text ∷ _) (value ∷ _ ∷ key ∷ _) =
     Some (record {
-      key = word_of text key.start key.end;
-      value = Some (word_of inside (value.start + 1) (value.end - 1));
+      key = located_text text key.start key.end;
+      value = Some (located_text inside (value.start + 1) (value.end - 1));
     })
 predicate_of _ _ = None
 

@@ -4,7 +4,7 @@ use Rattle.std.proofs.Common.{arith, rules, nat_eq, option_map, is_err, Result, 
 use Rattle.std.specs.List.{AllByRecursion}
 use Rattle.cfgx_syntax.specs.Error.{Cause, Fault}
 use Rattle.cfgx_grammar.specs.Classification.{Class, Part, Rule, by_name, class, key_rules}
-use Rattle.cfgx_grammar.specs.LastPredicate.{word_of}
+use Rattle.cfgx_grammar.specs.LastPredicate.{located_text}
 use Rattle.cfgx_grammar.specs.parsing.State.{Pending}
 use Rattle.cfgx_parser.specs.parsing.NodeState.{classified, located_class}
 use Rattle.cfgx_parser.specs.parsing.Fields.{class_result}
@@ -32,8 +32,8 @@ spares_value key = spares_by_name key None _ key_rules (search rules) (grind ari
 -- a key at 0, and its value at 1
 abbrev pub placed : List ℕ → Option (List ℕ) → Pending
 placed key value = record {
-  key = word_of key 0 0;
-  value = option_map (λ text. word_of text 1 1) value;
+  key = located_text key 0 0;
+  value = option_map (λ text. located_text text 1 1) value;
 }
 
 -- a fault at 0 is that of the key

@@ -4,7 +4,8 @@ ghost use Rattle.cfgx_syntax.specs.Error.{cause_of};
 ghost use Rattle.cfgx_grammar.specs.FirstFault.{fault_between};
 ghost use Rattle.cfgx_parser.specs.declared.nodes.ExprNode.TheVariants as node;
 ghost use Rattle.cfgx_parser.specs.parsing.NodeState.{classified};
-ghost use Rattle.cfgx_parser.specs.parsing.Fields.{word_of, pending_of, class_result, plain_fault};
+ghost use Rattle.cfgx_parser.specs.parsing.Fields.{located_text, pending_of, class_result};
+ghost use Rattle.cfgx_parser.specs.parsing.Fields.{plain_fault};
 ghost use Rattle.cfgx_parser.specs.parsing.Fields.{located_bare, located_target, located_other};
 
 use crate::nodes::{ExprNode, InnerPredicate, InnerTarget, Located, Span};
@@ -14,7 +15,7 @@ use cfgx_syntax::error::{Reason, terms};
 
 /// A part of the text, and where it stands.
 #[derive(Clone, Copy)]
-pub(crate) struct Word<'a> {
+pub(crate) struct LocatedText<'a> {
     pub(crate) text: &'a str,
     pub(crate) span: Span,
 }
@@ -23,8 +24,8 @@ pub(crate) struct Word<'a> {
 /// is read.
 #[derive(Clone, Copy)]
 pub(crate) struct Pending<'a> {
-    pub(crate) key: Word<'a>,
-    pub(crate) value: Option<Word<'a>>,
+    pub(crate) key: LocatedText<'a>,
+    pub(crate) value: Option<LocatedText<'a>>,
 }
 
 /// A fault of the text: a reason, and the bytes at fault.
@@ -34,7 +35,7 @@ pub(crate) struct Fault {
     pub(crate) span: Span,
 }
 
-impl Word<'_> {
+impl LocatedText<'_> {
     /// Returns the fault of this part of the text.
     fn fault(self, reason: Reason) -> Fault
         ensures { plain_fault result
@@ -48,8 +49,8 @@ impl Word<'_> {
 }
 
 /// Returns the leaf of a key that takes no value, or the fault of a value that is there.
-fn bare(leaf: ExprNode, value: Option<Word<'_>>) -> Result<ExprNode, Fault>
-    ensures { class_result result ≡ located_bare leaf (option_map word_of value.entry) }
+fn bare(leaf: ExprNode, value: Option<LocatedText<'_>>) -> Result<ExprNode, Fault>
+    ensures { class_result result ≡ located_bare leaf (option_map located_text value.entry) }
 {
     match value {
         None => Ok(leaf),
@@ -58,7 +59,7 @@ fn bare(leaf: ExprNode, value: Option<Word<'_>>) -> Result<ExprNode, Fault>
 }
 
 /// Returns the node of a predicate. Without a value, `value` is the key.
-fn predicate(asked: InnerPredicate, key: Word<'_>, value: Word<'_>) -> ExprNode
+fn predicate(asked: InnerPredicate, key: LocatedText<'_>, value: LocatedText<'_>) -> ExprNode
     ensures { result ≡ node.Predicate (record {
       asked = asked;
       key = key.entry.span;
@@ -75,9 +76,13 @@ fn predicate(asked: InnerPredicate, key: Word<'_>, value: Word<'_>) -> ExprNode
 /// Returns the predicate of a key that begins with `target_`, or the fault of the key or the value.
 /// `name` is the rest of the key. A byte order that cannot be read has the reason of a number, as
 /// in `cfg-expr`.
-fn classify_target(name: &str, key: Word<'_>, value: Word<'_>) -> Result<ExprNode, Fault>
-    ensures { class_result result ≡ located_target name.now (word_of key.entry)
-        (word_of value.entry) }
+fn classify_target(
+    name: &str,
+    key: LocatedText<'_>,
+    value: LocatedText<'_>,
+) -> Result<ExprNode, Fault>
+    ensures { class_result result ≡ located_target name.now (located_text key.entry)
+        (located_text value.entry) }
 {
     use InnerPredicate::{Target, TargetFeature};
     use InnerTarget::*;
@@ -109,9 +114,9 @@ fn classify_target(name: &str, key: Word<'_>, value: Word<'_>) -> Result<ExprNod
 
 /// Returns the predicate of a key that `classify` does not name, or the fault of the key or the
 /// value.
-fn classify_other(key: Word<'_>, value: Option<Word<'_>>) -> Result<ExprNode, Fault>
-    ensures { class_result result ≡ located_other (word_of key.entry)
-        (option_map word_of value.entry) }
+fn classify_other(key: LocatedText<'_>, value: Option<LocatedText<'_>>) -> Result<ExprNode, Fault>
+    ensures { class_result result ≡ located_other (located_text key.entry)
+        (option_map located_text value.entry) }
 {
     match (key.text.strip_prefix("target_"), value) {
         (Some(name), Some(value)) => classify_target(name, key, value),

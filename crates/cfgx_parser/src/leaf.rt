@@ -4,10 +4,10 @@ ghost use Rattle.cfgx_syntax.specs.Lexer.{token_of};
 ghost use Rattle.cfgx_syntax.specs.Stripping.{strip};
 ghost use Rattle.cfgx_grammar.specs.Unaskable.{IsUnaskable};
 ghost use Rattle.cfgx_grammar.specs.LastPredicate as grammar;
-ghost use Rattle.cfgx_parser.specs.parsing.Fields.{word_of};
+ghost use Rattle.cfgx_parser.specs.parsing.Fields.{located_text};
 ghost use Rattle.cfgx_parser.specs.Leaf.{YieldsFew, HasFaultyKey, IsFaultyKey};
 
-use crate::classification::{Pending, Word, classify};
+use crate::classification::{LocatedText, Pending, classify};
 use crate::nodes::Span;
 use cfgx_syntax::error::Failure;
 use cfgx_syntax::lexer::{Lexer, Token};
@@ -63,11 +63,11 @@ fn has_faulty_key(tokens: &[Token<'_>]) -> bool
 fn is_faulty_key(key: &str, value: Option<&str>) -> bool
     ensures { IsTrue result ↔ IsFaultyKey key.now (option_map (λ v. v.now) value.entry) }
 {
-    let key = word_at(key, 0);
+    let key = text_at(key, 0);
     match value {
         None => classify(&Pending { key, value: None }).is_err(),
         Some(value) => {
-            let value = Some(word_at(value, 1));
+            let value = Some(text_at(value, 1));
             match classify(&Pending { key, value }) {
                 Ok(_) => false,
                 Err(fault) => fault.span.start == 0,
@@ -76,13 +76,13 @@ fn is_faulty_key(key: &str, value: Option<&str>) -> bool
     }
 }
 
-/// Returns a word with an empty span at `place`, which tells the key from the value in a fault.
-fn word_at(text: &str, place: usize) -> Word<'_>
-    ensures { word_of result ≡ grammar.word_of text.now place place }
+/// Returns a text with an empty span at `place`, which tells the key from the value in a fault.
+fn text_at(text: &str, place: usize) -> LocatedText<'_>
+    ensures { located_text result ≡ grammar.located_text text.now place place }
 {
     let span = Span {
         start: place,
         end: place,
     };
-    Word { text, span }
+    LocatedText { text, span }
 }

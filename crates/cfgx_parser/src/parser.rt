@@ -12,7 +12,7 @@ ghost use Rattle.cfgx_parser.specs.parsing.Fields.{function_of, open_of, empty_l
 ghost use Rattle.cfgx_parser.specs.parsing.Fields.{last_of, token_like, plain_fault};
 ghost use Rattle.cfgx_parser.specs.parsing.Fields.{counted_around};
 
-use crate::classification::{Fault, Pending, Word, classify};
+use crate::classification::{Fault, LocatedText, Pending, classify};
 use crate::function::{Func, FuncKind};
 use crate::nodes::{ExprNode, KEPT_CAPACITY, Mark, NodeWriter, Span};
 use cfgx_syntax::error::{Failure, Reason, terms};
@@ -412,7 +412,7 @@ impl<'a, A: SmallAllocator> Parser<'a, A> {
         ensures { state_of self.new ≡ value_added (state_of self.old) text.now span }
     {
         if let Some(pending) = &mut self.pending {
-            pending.value = Some(Word {
+            pending.value = Some(LocatedText {
                 text,
                 span: Span {
                     start: span.start + 1,
@@ -432,7 +432,7 @@ impl<'a, A: SmallAllocator> Parser<'a, A> {
         let span = Span::from(span);
         match token {
             Token::Key(text) => {
-                let key = Word { text, span };
+                let key = LocatedText { text, span };
                 self.pending = Some(Pending { key, value: None });
             }
             Token::Value(text) => self.add_value(text, span),

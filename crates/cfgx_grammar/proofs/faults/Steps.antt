@@ -11,7 +11,7 @@ use Rattle.cfgx_syntax.specs.Error.{Fault, invalid_not}
 use Rattle.cfgx_grammar.specs.{Tree.ListFunction, Depth.members, Depth.first_below}
 use Rattle.cfgx_grammar.specs.FollowSet.{TokenKind, takes, kind_of, is_kind, next}
 use Rattle.cfgx_grammar.specs.Depth.{names_function, is_closing, depth, depth_at, innermost}
-use Rattle.cfgx_grammar.specs.LastPredicate.{predicate_last, word_of, with_value}
+use Rattle.cfgx_grammar.specs.LastPredicate.{predicate_last, located_text, with_value}
 use Rattle.cfgx_grammar.specs.FirstFault.{predicate_fault, head_token, last_token, lacks_value}
 use Rattle.cfgx_grammar.specs.FirstFault.{not_fault, unopened_fault, closed_fault, ended_fault}
 use Rattle.cfgx_grammar.specs.FirstFault.{first_of, when, fault_after, open_fault, empty_fault}
@@ -77,7 +77,7 @@ says kind back may = grind arith
 -- a value ends the predicate whose key and `=` stand before it
 value_says : (text : List ℕ) (start end : ℕ) (back : List Item)
     → takes (head_token back) TokenKind.value ≡ true
-    → option_map (with_value (word_of text (start + 1) (end - 1))) (begun_last back)
+    → option_map (with_value (located_text text (start + 1) (end - 1))) (begun_last back)
     ≡ predicate_last (record { token = Token.value text; start = start; end = end } ∷ back)
 value_says text start end back may = grind arith
 
@@ -298,7 +298,8 @@ module _ {W M L : Type 0} {builder : Builder W M L} (prefix : List Item) (s : St
         (refl, matched token _ 1 refl refl refl levels)
     token_step (Token.value text) may =
         let levels = rw (says TokenKind.value (reverse prefix) may) at m.levels in
-        let pending = ap (option_map (with_value (word_of text (start + 1) (end - 1)))) m.pending
+        let value = located_text text (start + 1) (end - 1) in
+        let pending = ap (option_map (with_value value)) m.pending
         ∙ value_says text start end (reverse prefix) may in
         let left = stays (Token.value text) _ (going s.pending) refl refl refl pending
         (grind arith) levels in (refl, left)

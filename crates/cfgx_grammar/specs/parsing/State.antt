@@ -2,7 +2,7 @@
 use Rattle.std.specs.Prelude.{ℕ, List, [], Option, None}
 use Rattle.cfgx_syntax.specs.Token.{Token}
 use Rattle.cfgx_grammar.specs.{Question.Leaf, Tree.ListFunction, Grammar.list_name}
-pub use Rattle.cfgx_grammar.specs.LastPredicate.{Word, KeyAndValue as Pending}
+pub use Rattle.cfgx_grammar.specs.LastPredicate.{LocatedText, KeyAndValue as Pending}
 
 -- the three functions
 pub data Function : Type 0 where

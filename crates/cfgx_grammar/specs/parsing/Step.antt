@@ -10,7 +10,7 @@ use Rattle.cfgx_syntax.specs.Error.{invalid_not, empty, multiple_root_predicates
 use Rattle.cfgx_grammar.specs.Classification.{Class}
 use Rattle.cfgx_grammar.specs.FirstFault.{fault_between, lacks_value}
 use Rattle.cfgx_grammar.specs.{FollowSet.next, FollowSet.expected, Tree.ListFunction}
-use Rattle.cfgx_grammar.specs.LastPredicate.{word_of, with_value, part_of, class_of}
+use Rattle.cfgx_grammar.specs.LastPredicate.{located_text, with_value, part_of, class_of}
 use Rattle.cfgx_grammar.specs.parsing.State.{Function, Pending, Builder, Open, State}
 
 -- `Result::and_then`
@@ -121,10 +121,10 @@ module _ {W M L : Type 0} {builder : Builder W M L} where
   -- the state after a token that may stand there, or the fault at it
   abbrev pub apply : State builder → Item → Token → Result (State builder) Fault
   apply s item (Token.key text) = Ok (record s {
-    pending = Some (record { key = word_of text item.start item.end; value = None });
+    pending = Some (record { key = located_text text item.start item.end; value = None });
   })
   apply s item (Token.value text) = Ok (record s {
-    pending = option_map (with_value (word_of text (item.start + 1) (item.end - 1))) s.pending;
+    pending = option_map (with_value (located_text text (item.start + 1) (item.end - 1))) s.pending;
   })
   apply s item Token.equals = Ok s
   apply s item Token.all = Ok (opened s (Function.list ListFunction.all) item)

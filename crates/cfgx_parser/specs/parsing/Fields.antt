@@ -4,12 +4,12 @@ use Rattle.std.specs.Prelude.{option_map, Result, Ok, Err}
 use Rattle.cfgx_syntax.specs.Error.{Fault, unexpected, cause_of}
 use Rattle.cfgx_grammar.specs.Classification.{target_class, other_class}
 use Rattle.cfgx_grammar.specs.Tree.{ListFunction}
-use Rattle.cfgx_grammar.specs.parsing.State.{Function, Word, Pending}
+use Rattle.cfgx_grammar.specs.parsing.State.{Function, LocatedText, Pending}
 use Rattle.cfgx_parser.specs.parsing.NodeState.{OpenFunction, located_class}
 use Rattle.cfgx_grammar.specs.FirstFault.{fault_between}
 use Rattle.cfgx_parser.specs.declared.function.FuncKind.{FuncKind}
 use Rattle.cfgx_parser.specs.declared.function.FuncKind.TheVariants as kind
-use Rattle.cfgx_parser.specs.declared.classification.Word as code_word
+use Rattle.cfgx_parser.specs.declared.classification.LocatedText as code_text
 use Rattle.cfgx_parser.specs.declared.classification.Pending as code_pending
 use Rattle.cfgx_parser.specs.declared.classification.Fault.{Fault as CodeFault}
 use Rattle.cfgx_parser.specs.declared.nodes.ExprNode.{ExprNode}
@@ -19,11 +19,11 @@ use Rattle.cfgx_parser.specs.declared.parser.LastToken.{LastToken}
 use Rattle.cfgx_parser.specs.declared.parser.LastToken.TheVariants as last
 use Rattle.cfgx_syntax.specs.Token as spelled
 
-abbrev pub word_of : code_word.Word → Word
-word_of word = record { text = word.text.now; start = word.span.start; end = word.span.end }
+abbrev pub located_text : code_text.LocatedText → LocatedText
+located_text t = record { text = t.text.now; start = t.span.start; end = t.span.end }
 
 abbrev pub pending_of : code_pending.Pending → Pending
-pending_of p = record { key = word_of p.key; value = option_map word_of p.value }
+pending_of p = record { key = located_text p.key; value = option_map located_text p.value }
 
 -- a fault of the code, without addresses
 abbrev pub plain_fault : CodeFault → Fault
@@ -34,17 +34,17 @@ class_result (Ok leaf) = Ok leaf
 class_result (Err fault) = Err (plain_fault fault)
 
 -- the leaf of a key that takes no value, or the fault of the value
-abbrev pub located_bare : ExprNode → Option Word → Result ExprNode Fault
+abbrev pub located_bare : ExprNode → Option LocatedText → Result ExprNode Fault
 located_bare leaf None = Ok leaf
 located_bare leaf (Some value) = Err (fault_between (unexpected []) value.start value.end)
 
 -- the leaf of a key that is `target_` and the name, or the fault
-abbrev pub located_target : List ℕ → Word → Word → Result ExprNode Fault
+abbrev pub located_target : List ℕ → LocatedText → LocatedText → Result ExprNode Fault
 located_target name key value =
     located_class (record { key = key; value = Some value }) (target_class name value.text)
 
 -- the leaf of a key that has no rule, or the fault
-abbrev pub located_other : Word → Option Word → Result ExprNode Fault
+abbrev pub located_other : LocatedText → Option LocatedText → Result ExprNode Fault
 located_other key value =
     located_class (record { key = key; value = value })
     (other_class key.text (option_map (λ v. v.text) value))

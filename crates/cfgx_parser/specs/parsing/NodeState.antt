@@ -5,7 +5,7 @@ use Rattle.cfgx_syntax.specs.Error.{Fault}
 use Rattle.cfgx_grammar.specs.Classification.{Class}
 use Rattle.cfgx_grammar.specs.LastPredicate.{class_of}
 use Rattle.cfgx_grammar.specs.parsing.State as parser
-use Rattle.cfgx_grammar.specs.parsing.State.{Function, Word, Pending, Builder}
+use Rattle.cfgx_grammar.specs.parsing.State.{Function, LocatedText, Pending, Builder}
 use Rattle.cfgx_grammar.specs.parsing.Step as steps
 use Rattle.cfgx_parser.specs.nodes.Node.{Mark, Written, nothing, mark_of, with_leaf, with_function}
 use Rattle.cfgx_parser.specs.nodes.Node.{with_list_ended, with_function_ended}
@@ -20,8 +20,8 @@ abbrev pub func_of : Function → ℕ → Func
 func_of Function.not n = func.Not
 func_of (Function.list function) n = list_func function n
 
-abbrev pub span_of : Word → Span
-span_of word = record { start = word.start; end = word.end }
+abbrev pub span_of : LocatedText → Span
+span_of text = record { start = text.start; end = text.end }
 
 -- the builder that writes nodes
 abbrev pub node_builder : Builder Written Mark ExprNode

@@ -20,7 +20,7 @@ use Rattle.cfgx_parser.specs.nodes.Node.{Written, with_leaf}
 use Rattle.cfgx_parser.specs.parsing.NodeState.{ParserState, classified}
 use Rattle.cfgx_grammar.specs.parsing.Step.{opened, closed_by, concluded_by, result_map}
 use Rattle.cfgx_grammar.specs.parsing.Step.{answer_from, over_top, with_parens}
-use Rattle.cfgx_grammar.specs.LastPredicate.{with_value, word_of}
+use Rattle.cfgx_grammar.specs.LastPredicate.{with_value, located_text}
 use Rattle.cfgx_parser.specs.parsing.Fields.{opens_in, roots_in, pending_of, plain_fault}
 use Rattle.cfgx_parser.specs.declared.parser.Parser.{Parser}
 
@@ -105,7 +105,7 @@ concluded s len = concluded_by len s s.stack
 abbrev pub value_added : ParserState → List ℕ → Span → ParserState
 value_added s text span = record s {
   pending = option_map
-      (with_value (word_of text (span.start + 1) (span.end - 1))) s.pending;
+      (with_value (located_text text (span.start + 1) (span.end - 1))) s.pending;
 }
 
 -- the span of a value includes its opening quote
