@@ -4,7 +4,7 @@
 use Rattle.std.specs.Prelude.{ℕ, ◌+◌, ◌-◌, List, ◌∷◌, Option, Some, None, option_map, unwrap_or}
 use Rattle.std.specs.Prelude.{map}
 use Rattle.cfgx_syntax.specs.{Token.Token, Items.Item}
-use Rattle.cfgx_grammar.specs.Classification.{Class, Part, class}
+use Rattle.cfgx_grammar.specs.Classification.{Class, FaultyPart, class}
 
 -- a key, or a value without its quotes, with its span
 pub record LocatedText : Type 0 where
@@ -25,9 +25,9 @@ abbrev pub with_value : LocatedText → KeyAndValue → KeyAndValue
 with_value value p = record p { value = Some value }
 
 -- the part of a predicate that is at fault; `class` names the value only if there is one
-abbrev pub part_of : KeyAndValue → Part → LocatedText
-part_of p Part.of_key = p.key
-part_of p Part.of_value = unwrap_or p.value p.key
+abbrev pub part_of : KeyAndValue → FaultyPart → LocatedText
+part_of p FaultyPart.key = p.key
+part_of p FaultyPart.value = unwrap_or p.value p.key
 
 -- what the key and the value say
 abbrev pub class_of : KeyAndValue → Class

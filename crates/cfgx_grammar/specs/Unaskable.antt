@@ -1,7 +1,7 @@
 -- Texts that no condition can ask, since their key is at fault.
 use Rattle.std.specs.Prelude.{◌≡◌, ℕ, List, Option, map}
 use Rattle.cfgx_syntax.specs.{Error.Cause, Items.Item, Items.Ending, Items.AreItems}
-use Rattle.cfgx_grammar.specs.{Grammar.leaf_tokens, Classification.Class, Classification.Part}
+use Rattle.cfgx_grammar.specs.{Grammar.leaf_tokens, Classification.Class, Classification.FaultyPart}
 use Rattle.cfgx_grammar.specs.Classification.{class}
 
 -- the text is a key, or a key, `=` and a value
@@ -16,4 +16,4 @@ pub record IsKeyAndValue (text : List ℕ) : Type 0 where
 -- The key begins with `target_` and is not known, or it lacks the value that it needs.
 abbrev pub IsUnaskable : List ℕ → Type 0
 IsUnaskable text = (leaf : IsKeyAndValue text) × (cause : Cause)
-    × (class leaf.key leaf.value ≡ Class.faulty cause Part.of_key)
+    × (class leaf.key leaf.value ≡ Class.faulty cause FaultyPart.key)

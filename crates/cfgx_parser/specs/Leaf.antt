@@ -7,7 +7,7 @@ use Rattle.cfgx_syntax.specs.declared.lexer.Token.{Token}
 use Rattle.std.specs.declared.vec.Vec.{Vec}
 use Rattle.cfgx_syntax.specs.declared.error.Failure.{Failure}
 use Rattle.cfgx_syntax.specs.declared.error.Failure.TheVariants as failure
-use Rattle.cfgx_grammar.specs.{Grammar.leaf_tokens, Classification.Class, Classification.Part}
+use Rattle.cfgx_grammar.specs.{Grammar.leaf_tokens, Classification.Class, Classification.FaultyPart}
 use Rattle.cfgx_grammar.specs.Classification.{class}
 
 abbrev pub tokens_of : List Item → List spelled.Token
@@ -30,7 +30,7 @@ YieldsFew lexer (Err (failure.Memory error)) = Unit {0}
 
 -- the key is at fault
 abbrev pub IsFaultyKey : List ℕ → Option (List ℕ) → Type 0
-IsFaultyKey key value = (cause : Cause) × (class key value ≡ Class.faulty cause Part.of_key)
+IsFaultyKey key value = (cause : Cause) × (class key value ≡ Class.faulty cause FaultyPart.key)
 
 -- the tokens are a key that is at fault, or such a key, `=` and a value
 abbrev pub HasFaultyKey : List spelled.Token → Type 0
