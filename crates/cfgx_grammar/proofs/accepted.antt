@@ -55,7 +55,8 @@ module _ {M : Type 0} where
   abbrev pub Ends : List (Open M) → ℕ → ℕ → List Token → Type 0
   Ends [] roots members tokens = (roots + members ≡ 1) × (tokens ≡ [])
   Ends (top ∷ rest) roots members tokens =
-      (allows_count top.function (top.members + members) ≡ true) × (n : ℕ) × (others : List Token)
+      (allows_count top.function (top.ended_members + members) ≡ true)
+      × (n : ℕ) × (others : List Token)
       × (trees : Trees Question) × (after : List Token)
       × (tokens ≡ Token.close_paren ∷ (commas n ++ (others ++ after))) × Separates n trees
       × IsList others trees × Ends rest roots (1 + count trees) after
@@ -94,13 +95,13 @@ module _ {M : Type 0} where
 
   -- a call before what is left after it
   pub Rest-call : (function : Function) (begun : Open M) (stack : List (Open M)) (roots : ℕ)
-      (tokens : List Token) → begun.function ≡ function → begun.members ≡ 0
+      (tokens : List Token) → begun.function ≡ function → begun.ended_members ≡ 0
       → Rest NoComma (begun ∷ stack) roots 0 tokens
       → Rest NoComma stack roots 0 (name_of function ∷ Token.open_paren ∷ tokens)
   Rest-call function begun stack roots tokens is none
       (n, inner, trees, _, these, bare, list, (room, m, others, left, after, are, may, rest, ends))
       =
-      let one : begun.members + (0 + count trees) ≡ count trees = omega arith in
+      let one : begun.ended_members + (0 + count trees) ≡ count trees = omega arith in
       let (tree, spelled) = called function inner trees (rw (one, is) at room) list in
       let beyond = commas m ++ (others ++ after) in
       let tokens_are : tokens ≡ (inner ++ Token.close_paren ∷ []) ++ beyond =

@@ -88,7 +88,7 @@ IsEnd last = (takes last TokenKind.closing ≡ true) × (takes last TokenKind.co
 
 -- the function with `n` more members
 abbrev more : {M : Type 0} → ℕ → Open M → Open M
-more n f = record f { members = f.members + n }
+more n f = record f { ended_members = f.ended_members + n }
 
 module _ {W M L : Type 0} {builder : Builder W M L} where
   -- the state with `n` more members of the innermost list

@@ -12,12 +12,12 @@ module _ (list changed : OpenList) where
   opens-changed f is [] = refl
   opens-changed f is (top ∷ rest) = ap (λ o. o ∷ opens_in top.around rest) (is top)
 
-  pub roots-same : changed.members ≡ list.members → (functions : List OpenFunc)
+  pub roots-same : changed.ended_members ≡ list.ended_members → (functions : List OpenFunc)
       → roots_in changed functions ≡ roots_in list functions
   roots-same is [] = is
   roots-same is (top ∷ rest) = refl
 
-  pub roots-more : changed.members ≡ list.members + 1 → (functions : List OpenFunc)
+  pub roots-more : changed.ended_members ≡ list.ended_members + 1 → (functions : List OpenFunc)
       → roots_in changed functions ≡ root_more (opens_in list functions) (roots_in list functions)
   roots-more is [] = is
   roots-more is (top ∷ rest) = refl

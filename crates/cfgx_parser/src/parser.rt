@@ -26,7 +26,7 @@ use std::fmt;
 #[derive(Clone, Copy)]
 pub(crate) struct OpenList {
     /// The number of its members that have ended
-    members: usize,
+    ended_members: usize,
     /// The position of its `(`, once that is read
     parens_position: Option<usize>,
 }
@@ -37,7 +37,7 @@ impl OpenList {
         ensures { result ≡ empty_list }
     {
         OpenList {
-            members: 0,
+            ended_members: 0,
             parens_position: None,
         }
     }
@@ -142,7 +142,7 @@ pub struct Parser<'a, A: SmallAllocator> {
     /// returns a `Halt`; before the first fault nothing reads it
     fault: Fault,
     /// Each open function, and each member that has ended, has a node
-    ghost bounded: { list.members + counted_around (reverse func_stack.items)
+    ghost bounded: { list.ended_members + counted_around (reverse func_stack.items)
         ≤ length writer.nodes.items },
     /// The number of nodes fits in a `usize`
     ghost countable: { length writer.nodes.items < 2 ^ 64 },
@@ -316,12 +316,12 @@ impl<'a, A: SmallAllocator> Parser<'a, A> {
 
     /// Counts one more member of the innermost list.
     fn count_member(&mut self)
-        requires { self.old.list.members + counted_around (reverse self.old.func_stack.items)
+        requires { self.old.list.ended_members + counted_around (reverse self.old.func_stack.items)
             < length self.old.writer.nodes.items }
         ensures counted { state_of self.new ≡ with_member (state_of self.old) }
         ensures functions { self.new.func_stack.items ≡ self.old.func_stack.items }
     {
-        self.list.members += 1;
+        self.list.ended_members += 1;
     }
 
     /// Writes the pending predicate or literal, if there is one.
@@ -392,7 +392,7 @@ impl<'a, A: SmallAllocator> Parser<'a, A> {
         let Some(top) = self.func_stack.pop() else {
             return Err(self.halt(Reason::UnopenedParens, span));
         };
-        let members = self.list.members + usize::from(self.pending.is_some());
+        let members = self.list.ended_members + usize::from(self.pending.is_some());
         if !allows_count(top.kind, members) {
             let (start, end) = (top.span.start, span.end);
             return Err(self.halt(Reason::InvalidNot(members), Span { start, end }));
@@ -466,7 +466,7 @@ impl<'a, A: SmallAllocator> Parser<'a, A> {
         ensures { Gives result self.new (one_root len (state_of self.old)) }
     {
         let whole = Span { start: 0, end: len };
-        match self.list.members {
+        match self.list.ended_members {
             0 => Err(self.halt(Reason::Empty, whole)),
             1 => Ok(self.writer.end_list(0)?),
             _ => Err(self.halt(Reason::MultipleRootPredicates, whole)),

@@ -82,7 +82,7 @@ module _ {M : Type 0} where
     pub is_open : IsOpenAt prefix level top.function top.start top.end place
     pub named_last : IsLast is_named place prefix
     pub parens : start_of (slice_get prefix (place + 1)) ≡ top.parens
-    pub count_is : members_at prefix (level + 1) (place + 1) ≡ top.members + going
+    pub count_is : members_at prefix (level + 1) (place + 1) ≡ top.ended_members + going
 
   abbrev pub Levels : List Item → ℕ → Bool → List (Open M) → ℕ → Type 0
   Levels prefix roots is_named [] going = members_at prefix 0 0 ≡ roots + going
@@ -144,8 +144,8 @@ module _ (prefix : List Item) (item : Item) where
   -- the token changes the members of the level, and the number of those that have not ended
   IsLevel-more : {M : Type 0} (level going goes : ℕ) (top : Open M) → level < depth more
       → ((place : ℕ) → place < length prefix
-      → members_at prefix (level + 1) (place + 1) ≡ top.members + going
-      → members_at more (level + 1) (place + 1) ≡ top.members + goes)
+      → members_at prefix (level + 1) (place + 1) ≡ top.ended_members + going
+      → members_at more (level + 1) (place + 1) ≡ top.ended_members + goes)
       → IsLevel prefix false level top going → IsLevel more false level top goes
   IsLevel-more level going goes top deep adds is =
       grind (arith, IsOpenAt-more, length_more, slice_get-append)

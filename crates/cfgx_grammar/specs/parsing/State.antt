@@ -37,7 +37,7 @@ pub record Open (M : Type 0) : Type 0 where
   pub start : ℕ
   pub end : ℕ
   pub parens : Option ℕ
-  pub members : ℕ
+  pub ended_members : ℕ
   pub mark : M
 
 -- The open functions, the innermost first; the pending predicate, which has begun and not ended;

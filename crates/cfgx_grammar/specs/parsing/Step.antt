@@ -37,7 +37,7 @@ module _ {M : Type 0} where
   over_top f (top ∷ rest) = f top ∷ rest
 
   abbrev pub one_more : Open M → Open M
-  one_more f = record f { members = f.members + 1 }
+  one_more f = record f { ended_members = f.ended_members + 1 }
 
   -- the function with the position of its `(`
   abbrev pub with_parens : ℕ → Open M → Open M
@@ -50,8 +50,8 @@ module _ {M : Type 0} where
 
   -- the number of members of a function that ends
   abbrev pub member_count : Open M → Option Pending → ℕ
-  member_count f None = f.members
-  member_count f (Some p) = f.members + 1
+  member_count f None = f.ended_members
+  member_count f (Some p) = f.ended_members + 1
 
   -- the fault of a function that is open at the end of a text of `len` bytes
   abbrev pub unclosed : ℕ → Open M → Option ℕ → Fault
@@ -93,7 +93,7 @@ module _ {W M L : Type 0} {builder : Builder W M L} where
     start = name.start;
     end = name.end;
     parens = None;
-    members = 0;
+    ended_members = 0;
     mark = builder.mark_of s.written;
   }
 
@@ -108,7 +108,7 @@ module _ {W M L : Type 0} {builder : Builder W M L} where
   function_ended [] s = s
   function_ended (top ∷ rest) s = with_member (record s {
     stack = rest;
-    written = builder.function_ended top.mark top.function top.members s.written;
+    written = builder.function_ended top.mark top.function top.ended_members s.written;
   })
 
   abbrev pub closed_by : State builder → Item → List (Open M) → Result (State builder) Fault

@@ -55,7 +55,7 @@ function_of kind.All = Function.list ListFunction.all
 function_of kind.Any = Function.list ListFunction.any
 
 abbrev pub empty_list : OpenList
-empty_list = record { members = 0; parens_position = None }
+empty_list = record { ended_members = 0; parens_position = None }
 
 -- an open function, with the list of its members
 abbrev pub open_of : OpenFunc → OpenList → OpenFunction
@@ -64,7 +64,7 @@ open_of f list = record {
   start = f.span.start;
   end = f.span.end;
   parens = list.parens_position;
-  members = list.members;
+  ended_members = list.ended_members;
   mark = f.mark;
 }
 
@@ -75,13 +75,13 @@ opens_in list (top ∷ rest) = open_of top list ∷ opens_in top.around rest
 
 -- the number of members at the root that have ended
 abbrev pub roots_in : OpenList → List OpenFunc → ℕ
-roots_in list [] = list.members
+roots_in list [] = list.ended_members
 roots_in list (top ∷ rest) = roots_in top.around rest
 
 -- the number of open functions, plus that of the members that have ended in the lists around them
 abbrev pub counted_around : List OpenFunc → ℕ
 counted_around [] = 0
-counted_around (top ∷ rest) = top.around.members + 1 + counted_around rest
+counted_around (top ∷ rest) = top.around.ended_members + 1 + counted_around rest
 
 -- what the parser keeps of the last token
 abbrev pub last_of : Option spelled.Token → LastToken

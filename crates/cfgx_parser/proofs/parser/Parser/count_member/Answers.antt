@@ -12,7 +12,7 @@ pub returns-clause-counted : goal.returns-clause-counted
 returns-clause-counted g c =
     let now = c.args.self.now in
     let functions = reverse now.func_stack.items in
-    let more : OpenList = record now.list { members = now.list.members + 1 } in
+    let more : OpenList = record now.list { ended_members = now.list.ended_members + 1 } in
     rw (
       opens-changed now.list more one_more (λ top. refl) functions,
       roots-more now.list more refl functions,
