@@ -15,7 +15,8 @@ use Rattle.cfg_expr.specs.nodes.StepWriting.{Written, ended, nothing, with_node,
 
 -- the function that has so many members that have not ended, and the leaves in front of its own
 abbrev within : Step → ℕ → List Step → Open
-within step members front = record { step = step; members = members; leaves = length front }
+within step members front =
+    record { step = step; members_left = members; leaves = length front }
 
 module _ (step : Step) (begun : List Open) (front own steps : List Step) where
   -- the last member has ended, or another one

@@ -28,11 +28,11 @@ written_of w = record {
 -- a member has ended, and with it each function of which it is the last one
 abbrev pub ended : List Open → List Step → List Step → Written
 ended [] leaves steps = record { begun = []; leaves = leaves; steps = steps }
-ended (function ∷ begun) leaves steps = if nat_le function.members 1
+ended (function ∷ begun) leaves steps = if nat_le function.members_left 1
     then ended begun (take function.leaves leaves)
     (steps ++ drop function.leaves leaves ++ function.step ∷ [])
     else record {
-      begun = record function { members = function.members - 1 } ∷ begun;
+      begun = record function { members_left = function.members_left - 1 } ∷ begun;
       leaves = leaves;
       steps = steps;
     }
@@ -44,9 +44,9 @@ with_leaf leaf w = ended w.begun (w.leaves ++ leaf ∷ []) w.steps
 -- a function begins, and ends if it has no members
 abbrev pub with_function : Step → ℕ → Written → Written
 with_function step members w =
-    let begun = record { step = step; members = members; leaves = length w.leaves } ∷ w.begun in
-    if nat_le members 0 then ended begun w.leaves w.steps
-    else record w { begun = begun }
+    let function = record { step = step; members_left = members; leaves = length w.leaves } in
+    if nat_le members 0 then ended (function ∷ w.begun) w.leaves w.steps
+    else record w { begun = function ∷ w.begun }
 
 -- a node is written
 abbrev pub with_node : Shape → Written → Written

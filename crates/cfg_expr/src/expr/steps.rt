@@ -232,7 +232,7 @@ where
 pub(crate) struct Open {
     step: Step,
     /// The number of its members that have not ended
-    members: usize,
+    members_left: usize,
     /// The length of the writer's `leaves` when it began
     leaves: usize,
 }
@@ -270,10 +270,10 @@ impl<A: SmallAllocator> StepWriter<A> {
             (written_of self.old).leaves (written_of self.old).steps) }
     {
         while let Some(function) = self.begun.pop() {
-            if function.members > 1 {
-                let members = function.members - 1;
+            if function.members_left > 1 {
+                let members_left = function.members_left - 1;
                 self.begun.push(Open {
-                    members,
+                    members_left,
                     ..function
                 })?;
                 return Ok(());
@@ -300,7 +300,7 @@ impl<A: SmallAllocator> StepWriter<A> {
         let leaves = self.leaves.len();
         self.begun.push(Open {
             step,
-            members,
+            members_left: members,
             leaves,
         })?;
         // A function without members ends at once.
