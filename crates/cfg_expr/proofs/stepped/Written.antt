@@ -13,7 +13,7 @@ use Rattle.cfg_expr.specs.declared.expr.steps.Step.{Step}
 use Rattle.cfg_expr.specs.declared.expr.steps.Step.TheVariants.{All, Any, Not}
 use Rattle.cfg_expr.specs.nodes.StepWriting.{Written, ended, nothing, with_node, with_nodes}
 
--- the function that has so many members that have not ended, and the leaves in front of its own
+-- a function of which `members` members have not ended; the leaves in `front` stand before its own
 abbrev within : Step → ℕ → List Step → Open
 within step members front =
     record { step = step; members_left = members; leaves = length front }

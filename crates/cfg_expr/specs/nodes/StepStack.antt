@@ -20,7 +20,8 @@ abbrev pub is_ask : Step → Bool
 is_ask Ask = true
 is_ask step = false
 
--- whether the steps leave one value on a stack that has so many, if no answer is missing
+-- The stack has `depth` values, and no answer is missing: whether each step finds the values that
+-- it pops, and one value is left at the end.
 abbrev pub leave_one : List Step → ℕ → Bool
 leave_one [] depth = nat_eq depth 1
 leave_one (step ∷ steps) depth =
