@@ -10,7 +10,7 @@ use Rattle.cfgx_parser.specs.parsing.NodeState.{classified, located_class}
 use Rattle.cfgx_parser.specs.parsing.Fields.{class_result}
 use Rattle.cfgx_parser.specs.declared.nodes.ExprNode.{ExprNode}
 use Rattle.cfgx_parser.specs.declared.classification.Fault.{Fault as CodeFault}
-use Rattle.cfgx_parser.specs.Leaf.{IsFaultyKey}
+use Rattle.cfgx_parser.specs.Unaskable.{IsFaultyKey}
 
 -- a class that has no fault of the value
 abbrev SparesValue : Class → Type 0

@@ -14,7 +14,7 @@ use Rattle.cfgx_syntax.specs.declared.lexer.Token.{Token}
 use Rattle.cfgx_syntax.proofs.TokenList.{Follows-stands, no_more_items}
 use Rattle.cfgx_syntax.specs.LexerState.{starting}
 use Rattle.cfgx_grammar.specs.{Grammar.leaf_tokens, Unaskable.IsUnaskable}
-use Rattle.cfgx_parser.specs.Leaf.{AreMany, HasFaultyKey, YieldsFew, tokens_of}
+use Rattle.cfgx_parser.specs.Unaskable.{AreMany, HasFaultyKey, YieldsFew, tokens_of}
 
 -- a lexer has come to this place and yielded these tokens, and others are left
 pub record Reads (lexer now : LexerState) (read : List Token) : Type 0 where

@@ -1,5 +1,5 @@
 pub mod Kinds
-pub mod Leaf
 pub mod Order
+pub mod Unaskable
 pub mod nodes
 pub mod parsing

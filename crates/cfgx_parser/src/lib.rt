@@ -4,6 +4,6 @@
 mod classification;
 pub mod function;
 pub mod kinds;
-pub mod leaf;
 pub mod nodes;
 pub mod parser;
+pub mod unaskable;

@@ -18,7 +18,7 @@ use cfg_expr::Predicate;
 use cfg_expr::error::{Failure, ParseError};
 use cfg_expr::expr::ConditionReader;
 use cfg_expr::memory::SmallAllocator;
-use cfgx_parser::leaf::is_unaskable;
+use cfgx_parser::unaskable::is_unaskable;
 use std::alloc::{AllocError, Allocator, Global};
 use std::marker::Model;
 

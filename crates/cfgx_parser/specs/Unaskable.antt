@@ -1,4 +1,4 @@
--- Tokens of a text, for one that is a key, or a key, `=` and a value.
+-- What tells that no condition can ask a text: its tokens are few, and its key is at fault.
 use Rattle.std.specs.Prelude.{◌≡◌, ℕ, ◌<◌, List, Option, Some, None, length, map, Result, Ok, Err}
 use Rattle.cfgx_syntax.specs.{Error.Cause, Lexer.token_of, LexerState.LexerState}
 use Rattle.cfgx_syntax.specs.Items.{Item, Ending, ItemsFrom}

@@ -5,7 +5,7 @@ ghost use Rattle.cfgx_syntax.specs.Stripping.{strip};
 ghost use Rattle.cfgx_grammar.specs.Unaskable.{IsUnaskable};
 ghost use Rattle.cfgx_grammar.specs.LastPredicate as grammar;
 ghost use Rattle.cfgx_parser.specs.parsing.Fields.{located_text};
-ghost use Rattle.cfgx_parser.specs.Leaf.{YieldsFew, HasFaultyKey, IsFaultyKey};
+ghost use Rattle.cfgx_parser.specs.Unaskable.{YieldsFew, HasFaultyKey, IsFaultyKey};
 
 use crate::classification::{LocatedText, Pending, classify};
 use crate::nodes::Span;

@@ -2,7 +2,7 @@ use Rattle.std.proofs.Common.{Some, None, ◌∙◌}
 use Rattle.cfgx_parser.specs.parsing.Fields.{plain_fault}
 use Rattle.cfgx_parser.specs.parsing.NodeState.{classified}
 use Rattle.cfgx_parser.proofs.FaultyKeys.{IsFaultyKey-bare, IsFaultyKey-valued}
-use Rattle.cfgx_parser.proofs.leaf.is_faulty_key.Goals as goal
+use Rattle.cfgx_parser.proofs.unaskable.is_faulty_key.Goals as goal
 
 pub returns-in-None : goal.returns-in-None
 returns-in-None c = rw (c.is_err.ensures.value, c.in-None.is)

@@ -1,6 +1,6 @@
 use Rattle.cfgx_syntax.specs.Stripping.{strip}
 use Rattle.cfgx_parser.proofs.FewTokens.{IsUnaskable-few, IsUnaskable-many}
-use Rattle.cfgx_parser.proofs.leaf.is_unaskable.Goals as goal
+use Rattle.cfgx_parser.proofs.unaskable.is_unaskable.Goals as goal
 
 pub returns-in-Ok-Some : goal.returns-in-Ok-Some
 returns-in-Ok-Some g c =

@@ -1,7 +1,7 @@
 use Rattle.std.proofs.Common.{arith}
 use Rattle.std.proofs.lemmas.Result.{err_from_is_err_and}
 use Rattle.cfgx_parser.proofs.FewTokens.{Reads-token, Reads-many, Reads-fault, Reads-end}
-use Rattle.cfgx_parser.proofs.leaf.few_tokens.Goals as goal
+use Rattle.cfgx_parser.proofs.unaskable.few_tokens.Goals as goal
 
 pub returns-in_err-found : goal.returns-in_err-found
 returns-in_err-found g c =
