@@ -10,26 +10,26 @@ use Rattle.cfg_expr.specs.Filling.{three_valued}
 use Rattle.cfg_expr.specs.Fold.{Operations, tree_fold}
 use Rattle.cfg_expr.specs.Homomorphism.{IsByLane, lane_valued}
 use Rattle.cfgx_grammar.specs.WellFormed.{IsWellFormed}
-use Rattle.cfg_expr.specs.Asking.{AnswersBy, Asker, Calls, MayAskEach}
+use Rattle.cfg_expr.specs.Asking.{AnswersBy, Closure, Calls, MayAskEach}
 
 -- the questions of the text's one tree in the order in which it asks them; each can stand in a text
 pub record AsksInOrder (text : List ℕ) (questions : List Question) : Type 0 where
   pub asked : (one : HasOneTree text) × (questions ≡ asked one.tree)
   pub well_formed : AllByRecursion IsWellFormed questions
 
-module _ {F T : Type 0} (logic : Operations T) (asker : Asker F T) where
+module _ {F T : Type 0} (logic : Operations T) (closure : Closure F T) where
   -- calls of the closure, one for each question of the text's one tree in order, lead from `before`
   -- to `after`, and `value` is that of the tree over their answers
   pub record Evaluates (text : List ℕ) (before : F) (value : T) (after : F) : Type 0 where
     pub one : HasOneTree text
     pub answers : List T
-    pub calls : Calls asker before (asked one.tree) answers after
+    pub calls : Calls closure before (asked one.tree) answers after
     pub value_is : value ≡ tree_fold logic one.tree answers
 
 -- the closure may be asked what the text's tree asks
-abbrev pub MayEvaluate : {F T : Type 0} → Asker F T → List ℕ → F → Type 0
-MayEvaluate asker text state =
-    (tree : Tree Question) → HasTree text tree → MayAskEach asker state (asked tree)
+abbrev pub MayEvaluate : {F T : Type 0} → Closure F T → List ℕ → F → Type 0
+MayEvaluate closure text state =
+    (tree : Tree Question) → HasTree text tree → MayAskEach closure state (asked tree)
 
 -- the value of the text's one tree over what the function says of its questions
 pub record IsValueBy {T : Type 0} (logic : Operations T) (text : List ℕ)
@@ -38,11 +38,11 @@ pub record IsValueBy {T : Type 0} (logic : Operations T) (text : List ℕ)
   pub value_is : value ≡ tree_fold logic one.tree (map answer_to (asked one.tree))
 
 -- what `eval` promises of its result, and of the closure before and after
-pub record EvaluatesTo {F T E : Type 0} (logic : Operations T) (asker : Asker F T) (text : List ℕ)
-    (before after : F) (result : Result T E) : Type 0 where
-  pub value : IfOk result (λ value. Evaluates logic asker text before value after)
+pub record EvaluatesTo {F T E : Type 0} (logic : Operations T) (closure : Closure F T)
+    (text : List ℕ) (before after : F) (result : Result T E) : Type 0 where
+  pub value : IfOk result (λ value. Evaluates logic closure text before value after)
   -- what follows if no call changes the closure and its answer is a function of the question
-  pub by : IfOk result (λ value. (answer_to : Question → T) → AnswersBy asker before answer_to
+  pub by : IfOk result (λ value. (answer_to : Question → T) → AnswersBy closure before answer_to
       → IsValueBy logic text answer_to value)
   -- after an error the closure is as it was
   pub refused : OnErr result (after ≡ before)

@@ -7,16 +7,16 @@ use Rattle.std.specs.List.{AllByRecursion}
 use Rattle.std.specs.Iterator.{AlwaysYields}
 use Rattle.std.proofs.Common.{Option, Some, None}
 use Rattle.cfgx_grammar.specs.Question.{Question}
-use Rattle.cfg_expr.specs.Asking.{Asker, Asks, Calls, MayAsk, MayAskEach}
+use Rattle.cfg_expr.specs.Asking.{Closure, Asks, Calls, MayAsk, MayAskEach}
 use Rattle.cfg_expr.specs.nodes.Reading.{Slot}
 use Rattle.cfg_expr.specs.declared.expr.evaluating.Slot.TheVariants as slot
 use Rattle.cfg_expr.specs.nodes.AnswerSlots.{Asking, with_answers}
 
 -- one call more
-Calls-then : {F T : Type 0} {asker : Asker F T} {start now after : F} {questions : List Question}
-    {answers : List T} {question : Question} {answer : T}
-    → Calls asker start questions answers now → Asks asker now question answer after
-    → Calls asker start (questions ++ question ∷ []) (answers ++ answer ∷ []) after
+Calls-then : {F T : Type 0} {closure : Closure F T} {start now after : F}
+    {questions : List Question} {answers : List T} {question : Question} {answer : T}
+    → Calls closure start questions answers now → Asks closure now question answer after
+    → Calls closure start (questions ++ question ∷ []) (answers ++ answer ∷ []) after
 Calls-then (Calls.none state) asks = Calls.more _ _ _ _ _ _ _ asks (Calls.none _)
 Calls-then (Calls.more _ _ _ _ _ _ _ first calls) asks =
     Calls.more _ _ _ _ _ _ _ first (Calls-then calls asks)
@@ -28,11 +28,11 @@ pub inside-kept : {T : Type 0} (slots new : List (Slot T)) (place : ℕ) (one : 
     → AllByRecursion (λ place. place < length new) next
 inside-kept slots new place one next put inside = rw (put, length-set slots place one) inside
 
-module _ {F T : Type 0} {asker : Asker F T} {start now : F} {questions rest : List Question}
+module _ {F T : Type 0} {closure : Closure F T} {start now : F} {questions rest : List Question}
     {at left : List ℕ} {initial slots : List (Slot T)}
-    (asking : Asking asker start questions at initial now rest left slots) where
+    (asking : Asking closure start questions at initial now rest left slots) where
   pub Asking-may : {question : Question} {others : List Question} → rest ≡ question ∷ others
-      → MayAskEach asker start questions → MayAsk asker now question
+      → MayAskEach closure start questions → MayAsk closure now question
   Asking-may {question} {others} is may = grind arith
 
   pub Asking-inside : {place : ℕ} {next : List ℕ} → left ≡ place ∷ next → place < length slots
@@ -40,9 +40,9 @@ module _ {F T : Type 0} {asker : Asker F T} {start now : F} {questions rest : Li
 
   pub Asking-next : {question : Question} {others : List Question} {answer : T} {after : F}
       {place : ℕ} {next : List ℕ} {new : List (Slot T)} → rest ≡ question ∷ others
-      → Asks asker now question answer after → left ≡ place ∷ next
+      → Asks closure now question answer after → left ≡ place ∷ next
       → new ≡ set slots place (slot.Leaf answer)
-      → Asking asker start questions at initial after others next new
+      → Asking closure start questions at initial after others next new
   Asking-next {question} {others} {answer} is asks left_is put = record {
     before = asking.before ++ question ∷ [];
     given = asking.given ++ answer ∷ [];
@@ -55,7 +55,7 @@ module _ {F T : Type 0} {asker : Asker F T} {start now : F} {questions rest : Li
   }
 
   -- with all asked, the answers are put
-  pub Asking-over : rest ≡ [] → (answers : List T) × Calls asker start questions answers now
+  pub Asking-over : rest ≡ [] → (answers : List T) × Calls closure start questions answers now
       × (slots ≡ with_answers initial at answers)
   Asking-over none =
       let all : questions ≡ asking.before =

@@ -2,7 +2,7 @@
 use Rattle.std.specs.Prelude.{◌≡◌, ◌<◌, ◌++◌, ℕ, List, [], ◌∷◌, length, replicate, set}
 use Rattle.std.specs.List.{AllByRecursion}
 use Rattle.cfgx_grammar.specs.Question.{Question}
-use Rattle.cfg_expr.specs.Asking.{Asker, Calls}
+use Rattle.cfg_expr.specs.Asking.{Closure, Calls}
 use Rattle.cfg_expr.specs.declared.expr.evaluating.Slot.{Slot}
 use Rattle.cfg_expr.specs.declared.expr.evaluating.Slot.TheVariants as slot
 
@@ -15,12 +15,12 @@ with_answers slots (place ∷ places) (answer ∷ answers) =
 
 -- where the asking stands: some questions were asked, one call each, and what the answers to the
 -- rest make of the slots, all answers make of the first ones
-pub record Asking {F T : Type 0} (asker : Asker F T) (start : F) (questions : List Question)
+pub record Asking {F T : Type 0} (closure : Closure F T) (start : F) (questions : List Question)
     (places : List ℕ) (initial : List (Slot T)) (now : F) (rest : List Question) (left : List ℕ)
     (slots : List (Slot T)) : Type 0 where
   pub before : List Question
   pub given : List T
-  pub calls : Calls asker start before given now
+  pub calls : Calls closure start before given now
   pub all : questions ≡ before ++ rest
   pub as_many : length left ≡ length rest
   pub inside : AllByRecursion (λ place. place < length slots) left
