@@ -194,7 +194,7 @@ impl<'a> Condition<'a> {
         ensures short { length self.now ≤ 32 → IsOk result }
     {
         prove!(are_disjoint(answers));
-        evaluating::eval_over_answers(alloc, self, answers)
+        evaluating::eval_over_slice(alloc, self, answers)
     }
 
     /// Compiles the condition to steps, as `Expression::steps` does.

@@ -368,7 +368,7 @@ where
 }
 
 /// Returns the value of the condition over `answers`, as `eval_over` does.
-pub(crate) fn eval_over_answers<T, A>(
+pub(crate) fn eval_over_slice<T, A>(
     alloc: A,
     condition: &Condition<'_>,
     answers: &[T],

@@ -173,7 +173,7 @@ pub(crate) fn decide<A: SmallAllocator>(
     ensures refused { OnErr result (held decision.new ≡ held decision.old) }
 {
     // In the logic of `Option<bool>`, `None` is unknown.
-    if let Some(value) = evaluating::eval_over_answers(alloc, condition, answers)? {
+    if let Some(value) = evaluating::eval_over_slice(alloc, condition, answers)? {
         *decision = Decision::Known(value);
         return Ok(());
     }

@@ -2,7 +2,7 @@
 use Rattle.std.proofs.Common.{◌∙◌, ap}
 use Rattle.std.proofs.lemmas.Result.{IfOk-weaker}
 use Rattle.cfg_expr.proofs.evaluated.Copied.{copies-come}
-use Rattle.cfg_expr.proofs.expr.evaluating.eval_over_answers.Goals as goal
+use Rattle.cfg_expr.proofs.expr.evaluating.eval_over_slice.Goals as goal
 
 pub eval_over-requires-clause-given : goal.eval_over-requires-clause-given
 eval_over-requires-clause-given g c =
