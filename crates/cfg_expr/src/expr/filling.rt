@@ -89,8 +89,8 @@ fn pass_nodes<A: SmallAllocator>(
     Ok(())
 }
 
-/// Makes room in `filling` for `count` items in all. Its items stay.
-fn reserve_in_all<A: Allocator>(filling: &mut Vec<bool, A>, count: usize) -> Result<(), AllocError>
+/// Reserves capacity for `count` items in `filling`, its own items included. These stay.
+fn ensure_capacity<A: Allocator>(filling: &mut Vec<bool, A>, count: usize) -> Result<(), AllocError>
     ensures items { filling.new.items ≡ filling.old.items }
     ensures room { OnOk result (count ≤ vec_capacity filling.new) }
 {
@@ -118,8 +118,8 @@ fn fill<A: SmallAllocator>(
     ensures refused { OnErr result
         ((if_true.new.items ≡ if_true.old.items) × (if_false.new.items ≡ if_false.old.items)) }
 {
-    reserve_in_all(if_true, places.len())?;
-    reserve_in_all(if_false, places.len())?;
+    ensure_capacity(if_true, places.len())?;
+    ensure_capacity(if_false, places.len())?;
     if_true.clear();
     if_false.clear();
     for (place, answer) in places.iter().zip(answers) {
