@@ -218,8 +218,9 @@ impl<A: SmallAllocator> NodeWriter<A> {
         self.first_capacity = capacity_for(len);
     }
 
-    /// Whether a node was written since the last restart and `waiting` is inline.
-    pub(crate) fn is_used_inline(&self) -> bool {
+    /// Whether the vectors should move to the heap: a node was written since the last restart, and
+    /// `waiting` is inline.
+    pub(crate) fn should_move_to_heap(&self) -> bool {
         self.node_count > 0 && !self.waiting.spilled()
     }
 

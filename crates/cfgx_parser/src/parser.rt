@@ -272,7 +272,7 @@ impl<'a, A: SmallAllocator> Parser<'a, A> {
     pub fn restart(&mut self, len: usize) -> Result<(), AllocError>
         ensures { state_of self.new ≡ initial }
     {
-        let must_move = self.writer.is_used_inline();
+        let must_move = self.writer.should_move_to_heap();
         self.func_stack.clear();
         self.list = OpenList::new();
         self.pending = None;
