@@ -89,7 +89,12 @@ impl HasAtomic {
     /// Reads a number of bits, at most 65535, or `ptr`. It reads what `Display` prints.
     ///
     /// A text that names a width takes no memory. Any other text is copied into `alloc` for the
-    /// error, which is `Memory` if `alloc` refuses the copy.
+    /// error.
+    ///
+    /// # Errors
+    ///
+    /// `HasAtomicFailure::Parse`: the text names no width. `HasAtomicFailure::Memory`: it names
+    /// none, and `alloc` refused memory for the copy.
     pub fn read<A: Allocator>(alloc: A, text: &str) -> Result<HasAtomic, HasAtomicFailure<A>>
         ensures reads { ReadsAtomic text.now result }
         ensures printed { (width : HasAtomic) → IsWidth width → text.now ≡ atomic_text width

@@ -16,7 +16,11 @@ pub enum Endian {
     little,
 }
 
-/// Reads `big` or `little`, letter for letter. The error of any other text has both names.
+/// Reads `big` or `little`, letter for letter.
+///
+/// # Errors
+///
+/// `Reason::Unexpected` with both names: the text is any other.
 impl FromStr for Endian {
     ghost use Rattle.cfgx_fields.specs.Endian.{ReadsEndian};
 

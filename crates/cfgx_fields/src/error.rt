@@ -53,8 +53,11 @@ impl<A: Allocator> Eq for HasAtomicParseError<A> {
 }
 
 impl<A: Allocator> HasAtomicParseError<A> {
-    /// Returns the error for `text`, which is copied into `alloc`, or `AllocError` if `alloc`
-    /// refuses the copy.
+    /// Returns the error for `text`, which is copied into `alloc`.
+    ///
+    /// # Errors
+    ///
+    /// `AllocError`: `alloc` refused memory.
     pub(crate) fn new(alloc: A, text: &str) -> Result<Self, AllocError>
         ensures { IfOk result (λ error. error ≡ text.now) }
     {
@@ -63,8 +66,11 @@ impl<A: Allocator> HasAtomicParseError<A> {
         })
     }
 
-    /// Returns an error equal to this one, whose text is copied into `alloc`, or `AllocError` if
-    /// `alloc` refuses the copy.
+    /// Returns an error equal to this one, whose text is copied into `alloc`.
+    ///
+    /// # Errors
+    ///
+    /// `AllocError`: `alloc` refused memory.
     pub fn try_clone(&self, alloc: A) -> Result<Self, AllocError>
         ensures { IfOk result (λ copy. copy ≡ self.now) }
     {

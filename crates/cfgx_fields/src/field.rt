@@ -68,7 +68,9 @@ impl<'a, K, A: Allocator> Field<'a, K, A> {
     /// Returns a field equal to this one. A borrowed text is borrowed again, and an owned one is
     /// copied into `alloc`.
     ///
-    /// Returns an error if `alloc` refuses the copy.
+    /// # Errors
+    ///
+    /// `AllocError`: `alloc` refused memory.
     pub fn try_clone(&self, alloc: A) -> Result<Self, AllocError>
         ensures { IfOk result (λ copy. copy ≡ self.now) }
     {

@@ -267,7 +267,9 @@ impl<'a, A: SmallAllocator> Parser<'a, A> {
     /// heap if a node was written since the last restart and `waiting` is inline. The fault of the
     /// last text stays, and nothing reads it before `halt` replaces it.
     ///
-    /// The error is that the allocator refused memory.
+    /// # Errors
+    ///
+    /// `AllocError`: the allocator refused memory.
     #[inline(always)]
     pub fn restart(&mut self, len: usize) -> Result<(), AllocError>
         ensures { state_of self.new ≡ initial }
@@ -498,7 +500,10 @@ impl<'a, A: SmallAllocator> Parser<'a, A> {
     /// Reads all tokens of the lexer, to the end of the text. The parser has to be new or
     /// restarted. If the result is `Ok`, `nodes` and `places` have the tree of the text.
     ///
-    /// The error is the first fault of the text, or that the call is out of memory.
+    /// # Errors
+    ///
+    /// `Failure::Parse`: the first fault of the text. `Failure::Memory`: an allocator refused
+    /// memory.
     pub fn read_all(&mut self, alloc: A, lexer: Lexer<'a, A>) -> Result<(), Failure<A>>
         ensures { ReadsAll lexer.entry self.old self.new result }
     {

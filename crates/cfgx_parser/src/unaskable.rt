@@ -17,7 +17,9 @@ use std::alloc::AllocError;
 /// Whether `text`, without an outer `cfg( )`, is a key that is at fault, or such a key, `=` and a
 /// value.
 ///
-/// The error is that `alloc` refused memory.
+/// # Errors
+///
+/// `AllocError`: `alloc` refused memory.
 pub fn is_unaskable<A: SmallAllocator>(alloc: A, text: &str) -> Result<bool, AllocError>
     ensures { IfOk result (λ is. IsTrue is ↔ IsUnaskable (strip text.now)) }
 {
@@ -29,8 +31,12 @@ pub fn is_unaskable<A: SmallAllocator>(alloc: A, text: &str) -> Result<bool, All
     }
 }
 
-/// Returns the tokens that are left, or `None` if they are more than three. `Parse` is the lexical
-/// fault, if it comes before the fourth token.
+/// Returns the tokens that are left, or `None` if they are more than three.
+///
+/// # Errors
+///
+/// `Failure::Parse`: a lexical fault before the fourth token. `Failure::Memory`: `alloc` refused
+/// memory.
 fn few_tokens<'a, A: SmallAllocator>(
     alloc: A,
     lexer: Lexer<'a, A>,

@@ -314,7 +314,9 @@ fn put_each<T: Logic, I: Iterator<Item = T> + Drop>(
 
 /// Returns the value of the condition, and asks `ep` for the answer to each predicate.
 ///
-/// Returns an error if `alloc` refuses memory for the slots. `ep` is then as it was.
+/// # Errors
+///
+/// `AllocError`: `alloc` refused memory for the slots. `ep` is as it was.
 pub(crate) fn eval<EP, T, A>(
     alloc: A,
     condition: &Condition<'_>,
@@ -340,7 +342,9 @@ where
 /// Returns the value of the condition over the answers that `answers` gives, one for each
 /// predicate, in the order in which the predicates are asked.
 ///
-/// Returns an error if `alloc` refuses memory for the slots.
+/// # Errors
+///
+/// `AllocError`: `alloc` refused memory for the slots.
 pub(crate) fn eval_over<T, I, A>(
     alloc: A,
     condition: &Condition<'_>,

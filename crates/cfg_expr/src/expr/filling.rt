@@ -101,7 +101,10 @@ fn ensure_capacity<A: Allocator>(filling: &mut Vec<bool, A>, count: usize) -> Re
 /// for each answer, the place of its predicate among the nodes. `negated` says of each node whether
 /// it is a predicate below an odd number of `not`.
 ///
-/// Room is made before anything is cleared. So both keep their items if `alloc` refuses memory.
+/// # Errors
+///
+/// `AllocError`: the allocator refused memory. Both keep their items, since room is made before
+/// anything is cleared.
 fn fill<A: SmallAllocator>(
     if_true: &mut Vec<bool, A>,
     if_false: &mut Vec<bool, A>,
@@ -131,7 +134,11 @@ fn fill<A: SmallAllocator>(
 }
 
 /// Replaces `decision` by the two fillings of `answers`. Reuses the memory of the fillings that it
-/// has. If `alloc` refuses memory, `decision` keeps what it holds.
+/// has.
+///
+/// # Errors
+///
+/// `AllocError`: `alloc` refused memory. `decision` keeps what it holds.
 fn set_unknown<A: SmallAllocator>(
     alloc: A,
     decision: &mut Decision<A>,
@@ -159,7 +166,9 @@ fn set_unknown<A: SmallAllocator>(
 /// Replaces `decision` by what `answers` decide. New fillings reuse the memory of those that it
 /// holds.
 ///
-/// Returns an error if `alloc` refuses memory. `decision` then keeps what it holds.
+/// # Errors
+///
+/// `AllocError`: `alloc` refused memory. `decision` keeps what it holds.
 pub(crate) fn decide<A: SmallAllocator>(
     alloc: A,
     condition: &Condition<'_>,

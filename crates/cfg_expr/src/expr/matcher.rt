@@ -108,7 +108,9 @@ impl<'a, A: Allocator> TargetPredicate<'a, A> {
     /// Returns an equal predicate. A borrowed text is borrowed again and takes no memory; an owned
     /// one is copied into `alloc`.
     ///
-    /// The error is that `alloc` refused the copy.
+    /// # Errors
+    ///
+    /// `AllocError`: `alloc` refused memory.
     pub fn try_clone(&self, alloc: A) -> Result<Self, AllocError>
         ensures { IfOk result (λ copy. copy ≡ self.now) }
     {

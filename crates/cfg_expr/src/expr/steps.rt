@@ -340,7 +340,9 @@ impl<A: SmallAllocator> StepWriter<A> {
 
 /// Returns the steps of a condition, in time proportional to the number of its nodes.
 ///
-/// Returns an error if `alloc` refuses memory.
+/// # Errors
+///
+/// `AllocError`: `alloc` refused memory.
 pub fn steps_of<A: SmallAllocator>(
     alloc: A,
     condition: &Condition<'_>,
