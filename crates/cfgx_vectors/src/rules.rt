@@ -1,5 +1,6 @@
 //! The rules of texts, and the checks of their rows.
 mod definitions;
+mod located;
 mod order;
 mod pages;
 mod predicates;
@@ -92,6 +93,7 @@ pub(crate) fn finding(alloc: Global, check: &str, row: &[String]) -> Option<Find
     match check {
         "items" => Some(tokens::finding(alloc, row)),
         "typed predicates" => Some(typed::finding(alloc, row)),
+        "located predicates" => Some(located::finding(alloc, row)),
         _ => finding_by_number(alloc, check, row),
     }
 }
