@@ -123,12 +123,18 @@ impl<'a> Condition<'a> {
         requires ends { IsFinite (I.remaining answers) }
         requires given { (given : List T) × AlwaysYields I.next_gives (λ x. x) answers given
             × AreAnswersTo given self.now }
+        // This also holds if the call is out of memory.
+        ensures one { HasOneTree self.now }
         ensures value { IfOk result (λ value. (given : List T)
             → AlwaysYields I.next_gives (λ x. x) answers given → AreAnswersTo given self.now
             → (one : HasOneTree self.now) × (value ≡ tree_fold T.Logic one.tree given)) }
         ensures short { length self.now ≤ 32 → IsOk result }
     {
-        evaluating::eval_over(alloc, self, answers)
+        let nodes = self.nodes();
+        let mut slots = evaluating::empty_slots(&alloc, nodes.len())?;
+        let slots = slots.as_mut_slice();
+        evaluating::put_each(self.places(), answers, slots);
+        Ok(evaluating::eval_nodes(nodes, slots))
     }
 
     /// Decides the condition as `Expression::decide` does, and replaces `decision`. New fillings

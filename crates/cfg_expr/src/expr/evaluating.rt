@@ -230,7 +230,7 @@ impl<T: Logic> Stack<'_, T> {
 }
 
 /// Returns the value of the condition whose answers are in the slots.
-fn eval_nodes<T: Logic>(nodes: &[ExprNode], slots: &mut [Slot<T>]) -> T
+pub(super) fn eval_nodes<T: Logic>(nodes: &[ExprNode], slots: &mut [Slot<T>]) -> T
     requires { (tree : Tree T) × HoldsAnswers nodes.now slots.old tree }
     ensures { (tree : Tree T) → HoldsAnswers nodes.now slots.old tree
         → result ≡ tree_value T.Logic tree }
@@ -245,7 +245,7 @@ fn eval_nodes<T: Logic>(nodes: &[ExprNode], slots: &mut [Slot<T>]) -> T
 
 /// Returns `count` empty slots. Up to 33 are inline and take no memory. A text has no more nodes
 /// than bytes, so this is enough for a text of 32 bytes.
-fn empty_slots<T: Logic, A: Allocator>(
+pub(super) fn empty_slots<T: Logic, A: Allocator>(
     alloc: &A,
     count: usize,
 ) -> Result<SmallVec<Slot<T>, 33, &A>, AllocError>
@@ -296,7 +296,7 @@ where
 }
 
 /// Puts the `answers` into the slots at `places`, as long as both last.
-fn put_each<T: Logic, I: Iterator<Item = T> + Drop>(
+pub(super) fn put_each<T: Logic, I: Iterator<Item = T> + Drop>(
     places: &[usize],
     answers: I,
     slots: &mut [Slot<T>],
@@ -339,39 +339,7 @@ where
     Ok(eval_nodes(nodes, slots))
 }
 
-/// Returns the value of the condition over the answers that `answers` gives, one for each
-/// predicate, in the order in which the predicates are asked.
-///
-/// # Errors
-///
-/// `AllocError`: `alloc` refused memory for the slots.
-pub(crate) fn eval_over<T, I, A>(
-    alloc: A,
-    condition: &Condition<'_>,
-    answers: I,
-) -> Result<T, AllocError>
-where
-    T: Logic,
-    I: Iterator<Item = T> + Drop,
-    A: SmallAllocator,
-    requires can { I.can_next answers }
-    requires ends { IsFinite (I.remaining answers) }
-    requires given { (given : List T) × AlwaysYields I.next_gives (λ x. x) answers given
-        × AreAnswersTo given condition.now }
-    ensures one { HasOneTree condition.now }
-    ensures value { IfOk result (λ value. (given : List T)
-        → AlwaysYields I.next_gives (λ x. x) answers given → AreAnswersTo given condition.now
-        → (one : HasOneTree condition.now) × (value ≡ tree_fold T.Logic one.tree given)) }
-    ensures short { length condition.now ≤ 32 → IsOk result }
-{
-    let nodes = condition.nodes();
-    let mut slots = empty_slots(&alloc, nodes.len())?;
-    let slots = slots.as_mut_slice();
-    put_each(condition.places(), answers, slots);
-    Ok(eval_nodes(nodes, slots))
-}
-
-/// Returns the value of the condition over `answers`, as `eval_over` does.
+/// Returns the value of the condition over `answers`, as `Condition::eval_over` does.
 pub(crate) fn eval_over_slice<T, A>(
     alloc: A,
     condition: &Condition<'_>,
@@ -386,5 +354,5 @@ where
         × (value ≡ tree_fold T.Logic one.tree answers.now)) }
     ensures short { length condition.now ≤ 32 → IsOk result }
 {
-    eval_over(alloc, condition, answers.iter().copied())
+    condition.eval_over(alloc, answers.iter().copied())
 }

@@ -3,7 +3,7 @@ use Rattle.std.proofs.Common.{◌∙◌, ap, length}
 use Rattle.cfgx_grammar.{specs.Tree.asked, proofs.Answering.only_tree}
 use Rattle.cfg_expr.proofs.Rooms.{room}
 use Rattle.cfg_expr.proofs.evaluated.Placed.{text-holds, text-inside}
-use Rattle.cfg_expr.proofs.expr.evaluating.eval_over.Goals as goal
+use Rattle.cfg_expr.proofs.expr.condition.Condition.eval_over.Goals as goal
 
 pub put_each-requires-clause-inside : goal.put_each-requires-clause-inside
 put_each-requires-clause-inside g c =
