@@ -21,9 +21,9 @@ fn status(rt: &HostRuntime) -> io::Result<u8> {
     for word in &owned {
         words.push(word.as_str())?;
     }
-    let mut reader = Counted::new(rt.stdin());
-    let mut writer = Counted::new(rt.stdout());
-    Ok(run(rt.alloc(), words.as_slice(), &mut reader, &mut writer))
+    let mut source = Counted::new(rt.stdin());
+    let mut sink = Counted::new(rt.stdout());
+    Ok(run(rt.alloc(), words.as_slice(), &mut source, &mut sink))
 }
 
 fn main(rt: HostRuntime) -> ExitCode {

@@ -32,64 +32,64 @@ const REFUSED: u8 = 3;
 /// - 0: the whole output was written.
 /// - 1: a text or the input is faulty, and the fault was written.
 /// - 2: wrong use, or a triple that is not built in.
-/// - 3: out of memory, or a call of the reader or the writer failed.
+/// - 3: out of memory, or a call of the source or the sink failed.
 ///
 /// The output is complete in memory before the first `write`; that of wrong use takes no memory.
 /// The first failed call ends the run. Both streams must count fewer than `u64::MAX` failed calls.
 pub fn run<A: SmallAllocator, R: Source, W: Sink>(
     alloc: A,
     words: &[&str],
-    reader: &mut R,
-    writer: &mut W,
+    source: &mut R,
+    sink: &mut W,
 ) -> u8
-    requires reader { R.failures reader.old < u64.MAX }
-    requires writer { W.failures writer.old < u64.MAX }
+    requires source { R.failures source.old < u64.MAX }
+    requires sink { W.failures sink.old < u64.MAX }
 
     // Any other status than 3: the whole output was written, and no call failed.
-    ensures done { result ≢ 3 → WritesWhole (request_of (texts words.now)) (R.unread reader.old)
-        result (W.written writer.old) (W.written writer.new) }
-    ensures done_count { result ≢ 3 → (W.failures writer.new ≡ W.failures writer.old)
-        × (R.failures reader.new ≡ R.failures reader.old) }
+    ensures done { result ≢ 3 → WritesWhole (request_of (texts words.now)) (R.unread source.old)
+        result (W.written sink.old) (W.written sink.new) }
+    ensures done_count { result ≢ 3 → (W.failures sink.new ≡ W.failures sink.old)
+        × (R.failures source.new ≡ R.failures source.old) }
 
-    // Status 3: either nothing was written, and at most one call of the reader failed; or one call
-    // of the writer failed, none of the reader did, and a prefix of the output was written.
-    ensures refused { result ≡ 3 → ((writer.new ≡ writer.old)
-        × ((R.failures reader.new ≡ R.failures reader.old)
-        ⊎ (R.failures reader.new ≡ R.failures reader.old + 1)))
-        ⊎ ((W.failures writer.new ≡ W.failures writer.old + 1)
-        × (R.failures reader.new ≡ R.failures reader.old)
-        × WritesFront (request_of (texts words.now)) (R.unread reader.old)
-        (W.written writer.old) (W.written writer.new)) }
+    // Status 3: either nothing was written, and at most one call of the source failed; or one call
+    // of the sink failed, none of the source did, and a prefix of the output was written.
+    ensures refused { result ≡ 3 → ((sink.new ≡ sink.old)
+        × ((R.failures source.new ≡ R.failures source.old)
+        ⊎ (R.failures source.new ≡ R.failures source.old + 1)))
+        ⊎ ((W.failures sink.new ≡ W.failures sink.old + 1)
+        × (R.failures source.new ≡ R.failures source.old)
+        × WritesFront (request_of (texts words.now)) (R.unread source.old)
+        (W.written sink.old) (W.written sink.new)) }
 
-    // On wrong use, status 3 only says that a call of the writer failed.
+    // On wrong use, status 3 only says that a call of the sink failed.
     ensures wrong_use { request_of (texts words.now) ≡ Request.wrong_use → result ≡ 3
-        → W.failures writer.new ≡ W.failures writer.old + 1 }
+        → W.failures sink.new ≡ W.failures sink.old + 1 }
 
     // Only a request that reads its input reads, and what it read stays read.
-    ensures reader { ¬ TakesInput (request_of (texts words.now)) → reader.new ≡ reader.old }
-    ensures front { ReadsFront (R.unread reader.old) (R.unread reader.new) }
+    ensures source { ¬ TakesInput (request_of (texts words.now)) → source.new ≡ source.old }
+    ensures front { ReadsFront (R.unread source.old) (R.unread source.new) }
     ensures status { result ≤ 3 }
 {
-    match output_of(alloc, words, reader) {
-        Ok(output) => write_output(writer, &output),
+    match output_of(alloc, words, source) {
+        Ok(output) => write_output(sink, &output),
         Err(_) => REFUSED,
     }
 }
 
-// Writes the output and returns its status. If a call of the writer failed, returns `REFUSED`.
-fn write_output<A: Allocator, W: Sink>(writer: &mut W, output: &Output<A>) -> u8
-    requires failures { W.failures writer.old < u64.MAX }
+// Writes the output and returns its status. If a call of the sink failed, returns `REFUSED`.
+fn write_output<A: Allocator, W: Sink>(sink: &mut W, output: &Output<A>) -> u8
+    requires failures { W.failures sink.old < u64.MAX }
     requires status { output.now.status < 3 }
-    ensures done { result ≢ 3 → (W.failures writer.new ≡ W.failures writer.old)
+    ensures done { result ≢ 3 → (W.failures sink.new ≡ W.failures sink.old)
         × (result ≡ output.now.status)
-        × Appends (W.written writer.old) (W.written writer.new)
+        × Appends (W.written sink.old) (W.written sink.new)
         (cow_slice_items output.now.bytes) }
-    ensures failed { result ≡ 3 → (W.failures writer.new ≡ W.failures writer.old + 1)
-        × TakesFront (W.written writer.old) (W.written writer.new)
+    ensures failed { result ≡ 3 → (W.failures sink.new ≡ W.failures sink.old + 1)
+        × TakesFront (W.written sink.old) (W.written sink.new)
         (cow_slice_items output.now.bytes) }
     ensures status { result ≤ 3 }
 {
-    if write_whole(writer, output.bytes.as_slice()) {
+    if write_whole(sink, output.bytes.as_slice()) {
         output.status
     } else {
         REFUSED

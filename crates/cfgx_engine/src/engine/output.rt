@@ -80,26 +80,26 @@ impl<A: Allocator> Output<A> {
     }
 }
 
-/// Builds the output of the command in `words`. Only `pick` reads from `reader`, and only if its
+/// Builds the output of the command in `words`. Only `pick` reads from `source`, and only if its
 /// triple is built in. Wrong use takes no memory.
 pub(super) fn output_of<A: SmallAllocator, R: Source>(
     alloc: A,
     words: &[&str],
-    reader: &mut R,
+    source: &mut R,
 ) -> Result<Output<A>, Stop>
-    requires { R.failures reader.old < u64.MAX }
+    requires { R.failures source.old < u64.MAX }
     ensures right { IfOk result (λ output. PrintsInput (request_of (texts words.now))
-        (R.unread reader.old) (output_view output)) }
+        (R.unread source.old) (output_view output)) }
     ensures wrong_use { request_of (texts words.now) ≡ Request.wrong_use → IsOk result }
-    ensures count { R.failures reader.new ≡ R.failures reader.old + stop_failures result }
-    ensures front { ReadsFront (R.unread reader.old) (R.unread reader.new) }
-    ensures others { ¬ TakesInput (request_of (texts words.now)) → reader.new ≡ reader.old }
+    ensures count { R.failures source.new ≡ R.failures source.old + stop_failures result }
+    ensures front { ReadsFront (R.unread source.old) (R.unread source.new) }
+    ensures others { ¬ TakesInput (request_of (texts words.now)) → source.new ≡ source.old }
 {
     match command_of(words) {
         Command::Parse(text) => Ok(parse_output(alloc, text)?),
         Command::Eval(text, flags) => Ok(eval_output(alloc, text, flags)?),
         Command::Target(triple, text) => Ok(target_output(alloc, triple, text)?),
-        Command::Pick(triple) => pick_output(alloc, triple, reader),
+        Command::Pick(triple) => pick_output(alloc, triple, source),
         Command::WrongUse => Ok(Output::constant(USAGE, NOT_KNOWN)),
     }
 }
@@ -160,19 +160,19 @@ fn parse_and_eval<A: SmallAllocator>(
 fn pick_output<A: SmallAllocator, R: Source>(
     alloc: A,
     triple: &str,
-    reader: &mut R,
+    source: &mut R,
 ) -> Result<Output<A>, Stop>
-    requires { R.failures reader.old < u64.MAX }
+    requires { R.failures source.old < u64.MAX }
     ensures right { IfOk result (λ output.
-        PrintsInput (Request.pick triple.now) (R.unread reader.old) (output_view output)) }
-    ensures count { R.failures reader.new ≡ R.failures reader.old + stop_failures result }
-    ensures front { ReadsFront (R.unread reader.old) (R.unread reader.new) }
-    ensures others { ¬ TakesInput (Request.pick triple.now) → reader.new ≡ reader.old }
+        PrintsInput (Request.pick triple.now) (R.unread source.old) (output_view output)) }
+    ensures count { R.failures source.new ≡ R.failures source.old + stop_failures result }
+    ensures front { ReadsFront (R.unread source.old) (R.unread source.new) }
+    ensures others { ¬ TakesInput (Request.pick triple.now) → source.new ≡ source.old }
 {
     let Some(row) = builtin(alloc, triple)? else {
         return Ok(Output::constant(UNKNOWN_TRIPLE, NOT_KNOWN));
     };
-    let input = read_input(alloc, reader)?;
+    let input = read_input(alloc, source)?;
     Ok(input_output(alloc, &row, input)?)
 }
 

@@ -82,17 +82,17 @@ fn make_room<A: Allocator>(bytes: &mut Vec<u8, A>, filled: usize) -> bool
 
 /// Reads once, behind the first `filled` bytes. Returns the number of bytes that were read, or
 /// `None` if the call failed.
-fn read_once<R: Source>(reader: &mut R, bytes: &mut [u8], filled: usize) -> Option<usize>
-    requires failures { R.failures reader.old < u64.MAX }
+fn read_once<R: Source>(source: &mut R, bytes: &mut [u8], filled: usize) -> Option<usize>
+    requires failures { R.failures source.old < u64.MAX }
     requires room { filled < length bytes.old }
-    ensures count { R.failures reader.new
-        ≡ R.failures reader.old + (if is_some result then 0 else 1) }
-    ensures came { IfSome result (λ count. ReadsMore (R.unread reader.old) (R.unread reader.new)
+    ensures count { R.failures source.new
+        ≡ R.failures source.old + (if is_some result then 0 else 1) }
+    ensures came { IfSome result (λ count. ReadsMore (R.unread source.old) (R.unread source.new)
         bytes.new filled count) }
     ensures front { take filled bytes.new ≡ take filled bytes.old }
-    ensures none { IfNone result (Keeps (R.unread reader.old) (R.unread reader.new)) }
+    ensures none { IfNone result (Keeps (R.unread source.old) (R.unread source.new)) }
 {
-    reader.read(&mut bytes[filled..]).ok()
+    source.read(&mut bytes[filled..]).ok()
 }
 
 /// Reads a source to its end.
@@ -104,10 +104,10 @@ fn read_once<R: Source>(reader: &mut R, bytes: &mut [u8], filled: usize) -> Opti
 ///
 /// - `Memory`: `alloc` refused memory.
 /// - `Device`: a call of the source failed, and none was made after it.
-pub fn read_input<A: Allocator, R: Source>(alloc: A, reader: &mut R) -> Result<Input<A>, Stop>
-    requires { R.failures reader.old < u64.MAX }
-    ensures count { R.failures reader.new ≡ R.failures reader.old + stop_failures result }
-    ensures bytes { ReadsInput (R.unread reader.old) (R.unread reader.new) result }
+pub fn read_input<A: Allocator, R: Source>(alloc: A, source: &mut R) -> Result<Input<A>, Stop>
+    requires { R.failures source.old < u64.MAX }
+    ensures count { R.failures source.new ≡ R.failures source.old + stop_failures result }
+    ensures bytes { ReadsInput (R.unread source.old) (R.unread source.new) result }
 {
     let mut bytes = Vec::new(alloc);
     let mut filled = 0;
@@ -115,7 +115,7 @@ pub fn read_input<A: Allocator, R: Source>(alloc: A, reader: &mut R) -> Result<I
         if !make_room(&mut bytes, filled) {
             return Err(Stop::Memory);
         }
-        let Some(count) = read_once(reader, bytes.as_mut_slice(), filled) else {
+        let Some(count) = read_once(source, bytes.as_mut_slice(), filled) else {
             return Err(Stop::Device);
         };
         if count == 0 {

@@ -6,8 +6,8 @@ use Rattle.cfgx_engine.proofs.engine.reading.read_input.Given as goal
 
 abbrev pub invariant-loop-filled : goal.invariant-loop-filled
 invariant-loop-filled g l = record {
-  count : g.R.Source.failures l.reader ≡ g.R.Source.failures l.fn.reader;
-  read : Consumes (g.R.Source.unread l.fn.reader) (g.R.Source.unread l.reader)
+  count : g.R.Source.failures l.source ≡ g.R.Source.failures l.fn.source;
+  read : Consumes (g.R.Source.unread l.fn.source) (g.R.Source.unread l.source)
       (take l.filled l.bytes.items);
   inside : l.filled ≤ length l.bytes.items;
   within : length l.bytes.items ≤ input_limit + 1;
