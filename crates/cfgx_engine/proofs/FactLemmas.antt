@@ -252,39 +252,39 @@ IsAnswer-alike one other otherwise question answer alike answers =
     let true_alike = alike.true_alike question in
     let unknown_alike = alike.unknown_alike question in grind arith
 
-module _ (Accepts : List ℕ → Type 0) (words : List (Bor (List ℕ))) (i : ℕ) (d : Bor (List ℕ))
-    (below : i < length words) where
-  -- the facts in one word more
-  pub AreFacts-more : (old new : FactTexts) → AreFacts Accepts (texts (take i words)) old
-      → AddsFact Accepts (get_or words i d).now old new
-      → AreFacts Accepts (texts (take (i + 1) words)) new
+module _ (Accepts : List ℕ → Type 0) (facts : List (Bor (List ℕ))) (i : ℕ) (d : Bor (List ℕ))
+    (below : i < length facts) where
+  -- with one fact more
+  pub AreFacts-more : (old new : FactTexts) → AreFacts Accepts (texts (take i facts)) old
+      → AddsFact Accepts (get_or facts i d).now old new
+      → AreFacts Accepts (texts (take (i + 1) facts)) new
   AreFacts-more old new are adds =
-      let front = texts (take i words) in
-      let word = (get_or words i d).now in
-      rw (take_more words i d below, map-append) (record {
+      let front = texts (take i facts) in
+      let fact = (get_or facts i d).now in
+      rw (take_more facts i d below, map-append) (record {
         each = recursion_from_All Accepts _
-            (All-push Accepts front word (All-from_recursion Accepts front are.each) adds.accepted);
-        alike = texts_of-more front word old new are.alike adds.alike;
+            (All-push Accepts front fact (All-from_recursion Accepts front are.each) adds.accepted);
+        alike = texts_of-more front fact old new are.alike adds.alike;
       })
 
-  -- a word is the first faulty fact if each word before it is accepted
-  pub IsFirstFaulty-here : (fault : TextFault) → AllByRecursion Accepts (texts (take i words))
-      → ¬ Accepts (get_or words i d).now → ParsesAs (fact_text (get_or words i d).now) (Err fault)
-      → IsFirstFaulty Accepts (texts words) i fault
+  -- a fact is the first faulty one if each before it is accepted
+  pub IsFirstFaulty-here : (fault : TextFault) → AllByRecursion Accepts (texts (take i facts))
+      → ¬ Accepts (get_or facts i d).now → ParsesAs (fact_text (get_or facts i d).now) (Err fault)
+      → IsFirstFaulty Accepts (texts facts) i fault
   IsFirstFaulty-here fault before refused parses = record {
-    fact = (get_or words i d).now;
-    stands = rw (slice_get-map, slice_get-get_or words i d below) refl;
+    fact = (get_or facts i d).now;
+    stands = rw (slice_get-map, slice_get-get_or facts i d below) refl;
     before = rw take-map before;
     refused = refused;
     parses = parses;
   }
 
-  -- the error of a failure at a word
+  -- the error of a failure at a fact
   pub ReadsFacts-fails : {A : Type 0} (failed : Failure A)
-      → AllByRecursion Accepts (texts (take i words))
-      → Fails {A = A} (λ fault. ParsesAs (fact_text (get_or words i d).now) (Err fault)
-      × ¬ Accepts (get_or words i d).now) failed
-      → ReadsFacts {A = A} Accepts (texts words) (Err (error_at {A = A} i failed))
+      → AllByRecursion Accepts (texts (take i facts))
+      → Fails {A = A} (λ fault. ParsesAs (fact_text (get_or facts i d).now) (Err fault)
+      × ¬ Accepts (get_or facts i d).now) failed
+      → ReadsFacts {A = A} Accepts (texts facts) (Err (error_at {A = A} i failed))
   ReadsFacts-fails (failure.Parse error) before fails =
       IsFirstFaulty-here _ before fails.1 fails.0
   ReadsFacts-fails (failure.Memory error) before fails = tt

@@ -14,38 +14,38 @@ pub data Request : Type 0 where
   target : List ℕ → List ℕ → Request
   -- the verdicts of the target with a triple on the sections of the input
   pick : List ℕ → Request
-  -- no word, a first word that is no command, or another number of words than the command has
+  -- no word, a first word that is no command, or another number of arguments than the command has
   wrong_use : Request
 
 -- the words as texts
 abbrev pub texts : List (Bor (List ℕ)) → List (List ℕ)
 texts words = map (λ word. word.now) words
 
--- `parse` and these words
+-- the request of `parse` with these arguments
 abbrev pub parse_request : List (List ℕ) → Request
 parse_request (text ∷ []) = Request.parse text
-parse_request words = Request.wrong_use
+parse_request arguments = Request.wrong_use
 
--- `eval` and these words
+-- the request of `eval` with these arguments
 abbrev pub eval_request : List (List ℕ) → Request
 eval_request [] = Request.wrong_use
 eval_request (text ∷ flags) = Request.eval text flags
 
--- `target` and these words
+-- the request of `target` with these arguments
 abbrev pub target_request : List (List ℕ) → Request
 target_request (triple ∷ text ∷ []) = Request.target triple text
-target_request words = Request.wrong_use
+target_request arguments = Request.wrong_use
 
--- `pick` and these words
+-- the request of `pick` with these arguments
 abbrev pub pick_request : List (List ℕ) → Request
 pick_request (triple ∷ []) = Request.pick triple
-pick_request words = Request.wrong_use
+pick_request arguments = Request.wrong_use
 
 abbrev pub request_of : List (List ℕ) → Request
 request_of [] = Request.wrong_use
-request_of (name ∷ words) =
-    if bytes_eq name (codes "parse") then parse_request words
-    else if bytes_eq name (codes "eval") then eval_request words
-    else if bytes_eq name (codes "target") then target_request words
-    else if bytes_eq name (codes "pick") then pick_request words
+request_of (name ∷ arguments) =
+    if bytes_eq name (codes "parse") then parse_request arguments
+    else if bytes_eq name (codes "eval") then eval_request arguments
+    else if bytes_eq name (codes "target") then target_request arguments
+    else if bytes_eq name (codes "pick") then pick_request arguments
     else Request.wrong_use

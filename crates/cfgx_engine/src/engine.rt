@@ -26,8 +26,8 @@ pub use streams::{Counted, Sink, Source};
 /// The status of a run that is out of memory, or in which a read, a write or a flush failed.
 const REFUSED: u8 = 3;
 
-/// Runs the command in `words`, the arguments after the program's name, and returns the exit
-/// status. `docs/RULES.md` has the rules.
+/// Runs the command in `words`, those after the program's name, and returns the exit status.
+/// `docs/RULES.md` has the rules.
 ///
 /// - 0: the whole output was written.
 /// - 1: a text or the input is faulty, and the fault was written.

@@ -15,57 +15,57 @@ pub(super) enum Command<'a> {
     WrongUse,
 }
 
-/// Returns the command in `words`, the arguments after the program's name.
+/// Returns the command in `words`, those after the program's name.
 pub(super) fn command_of<'a>(words: &'a [&'a str]) -> Command<'a>
     ensures { command_request result ≡ request_of (texts words.now) }
 {
-    let Some((name, words)) = words.split_first() else {
+    let Some((name, arguments)) = words.split_first() else {
         return Command::WrongUse;
     };
     match *name {
-        "parse" => parse_command(words),
-        "eval" => eval_command(words),
-        "target" => target_command(words),
-        "pick" => pick_command(words),
+        "parse" => parse_command(arguments),
+        "eval" => eval_command(arguments),
+        "target" => target_command(arguments),
+        "pick" => pick_command(arguments),
         _ => Command::WrongUse,
     }
 }
 
-/// Returns the command of `parse` and `words`.
-fn parse_command<'a>(words: &'a [&'a str]) -> Command<'a>
-    ensures { command_request result ≡ parse_request (texts words.now) }
+/// Returns the command `parse` with `arguments`.
+fn parse_command<'a>(arguments: &'a [&'a str]) -> Command<'a>
+    ensures { command_request result ≡ parse_request (texts arguments.now) }
 {
-    match words {
+    match arguments {
         [text] => Command::Parse(text),
         _ => Command::WrongUse,
     }
 }
 
-/// Returns the command of `eval` and `words`.
-fn eval_command<'a>(words: &'a [&'a str]) -> Command<'a>
-    ensures { command_request result ≡ eval_request (texts words.now) }
+/// Returns the command `eval` with `arguments`.
+fn eval_command<'a>(arguments: &'a [&'a str]) -> Command<'a>
+    ensures { command_request result ≡ eval_request (texts arguments.now) }
 {
-    match words.split_first() {
+    match arguments.split_first() {
         Some((text, flags)) => Command::Eval(text, flags),
         None => Command::WrongUse,
     }
 }
 
-/// Returns the command of `target` and `words`.
-fn target_command<'a>(words: &'a [&'a str]) -> Command<'a>
-    ensures { command_request result ≡ target_request (texts words.now) }
+/// Returns the command `target` with `arguments`.
+fn target_command<'a>(arguments: &'a [&'a str]) -> Command<'a>
+    ensures { command_request result ≡ target_request (texts arguments.now) }
 {
-    match words {
+    match arguments {
         [triple, text] => Command::Target(triple, text),
         _ => Command::WrongUse,
     }
 }
 
-/// Returns the command of `pick` and `words`.
-fn pick_command<'a>(words: &'a [&'a str]) -> Command<'a>
-    ensures { command_request result ≡ pick_request (texts words.now) }
+/// Returns the command `pick` with `arguments`.
+fn pick_command<'a>(arguments: &'a [&'a str]) -> Command<'a>
+    ensures { command_request result ≡ pick_request (texts arguments.now) }
 {
-    match words {
+    match arguments {
         [triple] => Command::Pick(triple),
         _ => Command::WrongUse,
     }

@@ -152,20 +152,20 @@ impl<A: SmallAllocator> Facts<A> {
         Facts::read(alloc, lines, OnUnaskable::PassOver)
     }
 
-    /// Reads each of `words` as a fact, in order.
-    fn read(alloc: A, words: &[&str], on_unaskable: OnUnaskable) -> Result<Facts<A>, FactsError<A>>
-        ensures { ReadsFacts (accepts on_unaskable) (texts words.now) result }
+    /// Reads `facts` one after another.
+    fn read(alloc: A, facts: &[&str], on_unaskable: OnUnaskable) -> Result<Facts<A>, FactsError<A>>
+        ensures { ReadsFacts (accepts on_unaskable) (texts facts.now) result }
     {
         let mut reader = ConditionReader::new(alloc);
         let mut of_true = Names::new(alloc);
         let mut of_unknown = Names::new(alloc);
-        for (index, word) in words.iter().enumerate() {
+        for (index, fact) in facts.iter().enumerate() {
             let added = add_fact(
                 alloc,
                 &mut reader,
                 &mut of_true,
                 &mut of_unknown,
-                word,
+                fact,
                 on_unaskable,
             );
             if let Err(failure) = added {
@@ -201,19 +201,19 @@ fn add_fact<'a, A: SmallAllocator>(
     reader: &mut ConditionReader<'a, A>,
     of_true: &mut Names<A>,
     of_unknown: &mut Names<A>,
-    word: &'a str,
+    fact: &'a str,
     on_unaskable: OnUnaskable,
 ) -> Result<(), Failure<A>>
     requires { AreNames of_true.old × AreNames of_unknown.old }
     ensures named { OnOk result (AreNames of_true.new × AreNames of_unknown.new) }
-    ensures ok { OnOk result (AddsFact (accepts on_unaskable) word.now
+    ensures ok { OnOk result (AddsFact (accepts on_unaskable) fact.now
         (facts_in of_true.old of_unknown.old) (facts_in of_true.new of_unknown.new)) }
-    ensures err { IfErr result (Fails (λ fault. ParsesAs (fact_text word.now) (Err fault)
-        × ¬ accepts on_unaskable word.now)) }
+    ensures err { IfErr result (Fails (λ fault. ParsesAs (fact_text fact.now) (Err fault)
+        × ¬ accepts on_unaskable fact.now)) }
 {
-    match word.strip_prefix('?') {
+    match fact.strip_prefix('?') {
         Some(text) => add_text(alloc, reader, of_unknown, text, on_unaskable),
-        None => add_text(alloc, reader, of_true, word, on_unaskable),
+        None => add_text(alloc, reader, of_true, fact, on_unaskable),
     }
 }
 

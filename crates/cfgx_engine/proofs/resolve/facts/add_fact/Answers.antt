@@ -16,43 +16,43 @@ returns-in-Some-clause-named g c =
 
 pub returns-in-Some-clause-ok : goal.returns-in-Some-clause-ok
 returns-in-Some-clause-ok g c =
-    let word = c.args.word.now in
-    let marked = strip_prefix_char 63 word (Some c.in-Some.text) c.in-Some.ensures.cases
+    let fact = c.args.fact.now in
+    let marked = strip_prefix_char 63 fact (Some c.in-Some.text) c.in-Some.ensures.cases
     (omega arith) in
-    on_ok_weaker c.add_text.result (λ adds. AddsFact-unknown c.args.on_unaskable word
+    on_ok_weaker c.add_text.result (λ adds. AddsFact-unknown c.args.on_unaskable fact
     c.in-Some.text.now _ _ (rw marked refl) (Pushes-added c.args.on_unaskable c.in-Some.text.now
     _ _ c.requires.1 adds)) c.add_text.ensures.ok
 
 pub returns-in-Some-clause-err : goal.returns-in-Some-clause-err
 returns-in-Some-clause-err g c =
-    let word = c.args.word.now in
-    let marked = strip_prefix_char 63 word (Some c.in-Some.text) c.in-Some.ensures.cases
+    let fact = c.args.fact.now in
+    let marked = strip_prefix_char 63 fact (Some c.in-Some.text) c.in-Some.ensures.cases
     (omega arith) in
     IfErr-weaker c.add_text.result _ _ (λ failed fails. Fails-refused {A = g.row.A.Denot}
-    c.args.on_unaskable word c.in-Some.text.now failed (rw marked refl) fails)
+    c.args.on_unaskable fact c.in-Some.text.now failed (rw marked refl) fails)
     c.add_text.ensures.err
 
 pub returns-in-None-clause-named : goal.returns-in-None-clause-named
 returns-in-None-clause-named g c =
     on_ok_weaker c.add_text-in-None.result (λ adds. (
       AreNames-added c.args.on_unaskable
-          c.args.word.now _ _ c.requires.0 adds,
+          c.args.fact.now _ _ c.requires.0 adds,
       c.requires.1,
     )) c.add_text-in-None.ensures.ok
 
 pub returns-in-None-clause-ok : goal.returns-in-None-clause-ok
 returns-in-None-clause-ok g c =
-    let word = c.args.word.now in
-    let unmarked = unknown_text-unmarked word
-    (strip_prefix_char 63 word None c.in-None.ensures.cases (omega arith)) in
-    on_ok_weaker c.add_text-in-None.result (λ adds. AddsFact-true c.args.on_unaskable word _ _
-    unmarked (Pushes-added c.args.on_unaskable word _ _ c.requires.0 adds))
+    let fact = c.args.fact.now in
+    let unmarked = unknown_text-unmarked fact
+    (strip_prefix_char 63 fact None c.in-None.ensures.cases (omega arith)) in
+    on_ok_weaker c.add_text-in-None.result (λ adds. AddsFact-true c.args.on_unaskable fact _ _
+    unmarked (Pushes-added c.args.on_unaskable fact _ _ c.requires.0 adds))
     c.add_text-in-None.ensures.ok
 
 pub returns-in-None-clause-err : goal.returns-in-None-clause-err
 returns-in-None-clause-err g c =
-    let word = c.args.word.now in
-    let unmarked = unknown_text-unmarked word
-    (strip_prefix_char 63 word None c.in-None.ensures.cases (omega arith)) in
+    let fact = c.args.fact.now in
+    let unmarked = unknown_text-unmarked fact
+    (strip_prefix_char 63 fact None c.in-None.ensures.cases (omega arith)) in
     IfErr-weaker c.add_text-in-None.result _ _ (λ failed fails. Fails-refused {A = g.row.A.Denot}
-    c.args.on_unaskable word word failed (rw unmarked refl) fails) c.add_text-in-None.ensures.err
+    c.args.on_unaskable fact fact failed (rw unmarked refl) fails) c.add_text-in-None.ensures.err

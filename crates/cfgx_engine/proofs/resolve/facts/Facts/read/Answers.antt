@@ -11,17 +11,17 @@ pub loop-index-init : goal.loop-index-init
 loop-index-init g c = rw (c.new-of_true.ensures, c.new-of_unknown.ensures)
     ((All-nil IsName, All-nil IsName), AreFacts-none (accepts c.args.on_unaskable))
 
--- each word before the faulty one is accepted
+-- each fact before the faulty one is accepted
 pub returns-in-Err : goal.returns-in-Err
 returns-in-Err g c =
-    rw c.at.ensures (ReadsFacts-fails (accepts c.args.on_unaskable) c.args.words.now
+    rw c.at.ensures (ReadsFacts-fails (accepts c.args.on_unaskable) c.args.facts.now
     c.loop-index.index _ c.loop-index-test.true {A = g.row.A.Denot} c.in-Err.failure
     c.loop-index.invariant.1.each c.in-Err.ensures.err)
 
 pub loop-index-preserved : goal.loop-index-preserved
 loop-index-preserved g c = (
   c.in_default.ensures.named,
-  AreFacts-more (accepts c.args.on_unaskable) c.args.words.now c.loop-index.index _
+  AreFacts-more (accepts c.args.on_unaskable) c.args.facts.now c.loop-index.index _
       c.loop-index-test.true _ _ c.loop-index.invariant.1 c.in_default.ensures.ok,
 )
 
@@ -32,7 +32,7 @@ invariant_of-result g c =
       (All-permutation IsName _ _ c.sort-2.ensures.same named.1, c.sort-2.ensures.sorted),
     )
 
--- no word is left
+-- no fact is left
 pub returns : goal.returns
 returns g c =
     let named = c.loop-index.invariant.0 in

@@ -3,9 +3,9 @@ use Rattle.cfgx_engine.specs.{Facts.AreFacts, Request.texts, internal.ReadsFacts
 use Rattle.cfgx_engine.specs.internal.Names.{AreNames, facts_in}
 use Rattle.cfgx_engine.proofs.resolve.facts.Facts.read.Given as goal
 
--- the facts of the words so far
+-- the facts that were read so far
 abbrev pub invariant-loop-index : goal.invariant-loop-index
 invariant-loop-index g l =
     (AreNames l.of_true × AreNames l.of_unknown)
-    × AreFacts (accepts l.on_unaskable) (texts (take l.index l.words))
+    × AreFacts (accepts l.on_unaskable) (texts (take l.index l.facts))
     (facts_in l.of_true l.of_unknown)
