@@ -83,7 +83,7 @@ HasValue text flags value = (reading : Result (List (Tree Question)) TextFault)
 
 -- the answer of a target to a question. A question that is not on the target is unknown
 abbrev pub answer_on : {A : Type 0} → TargetInfo A → Question → Option Bool
-answer_on row = answer_by (meets row)
+answer_on target = answer_by (meets target)
 
 -- the value of a tree with these answers, or the fault in its place
 abbrev pub value_by : (Question → Option Bool) → Result (Tree Question) TextFault

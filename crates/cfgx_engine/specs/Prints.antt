@@ -47,11 +47,11 @@ Prints (Request.eval text flags) input output = (value : Result (Option Bool) Te
     × HasValue text flags value × (output ≡ result_output value)
 Prints (Request.target triple text) input output =
     MatchOption (row_with {A = Global} triple builtin_rows) (output ≡ unknown_triple)
-    (λ row. (value : Result (Option Bool) TextFault) × HasValueBy (answer_on row) text value
+    (λ target. (value : Result (Option Bool) TextFault) × HasValueBy (answer_on target) text value
     × (output ≡ result_output value))
 Prints (Request.pick triple) input output =
     MatchOption (row_with {A = Global} triple builtin_rows) (output ≡ unknown_triple)
-    (λ row. Picks (answer_on row) input output)
+    (λ target. Picks (answer_on target) input output)
 Prints Request.wrong_use input output = output ≡ usage
 
 -- the request reads its input

@@ -28,8 +28,8 @@ decision_text (decision.Unknown if_true if_false) =
 
 -- the verdict of the target on the condition is added
 abbrev pub AddsVerdict : {A : Type 0} → TargetInfo A → List ℕ → List ℕ → List ℕ → Type 0
-AddsVerdict row condition old new = (one : HasOneTree condition)
-    × (new ≡ old ++ verdict_lines one.tree (map (answer_on row) (asked one.tree)))
+AddsVerdict target condition old new = (one : HasOneTree condition)
+    × (new ≡ old ++ verdict_lines one.tree (map (answer_on target) (asked one.tree)))
 
 -- what is printed for line `number` is added
 abbrev pub AddsLine : (Question → Option Bool) → ℕ → Line → List ℕ → List ℕ → Type 0

@@ -137,22 +137,22 @@ fn target_output<A: SmallAllocator>(
     ensures { IfOk result (λ output.
         Prints (Request.target triple.now text.now) [] (output_view output)) }
 {
-    let Some(row) = builtin(alloc, triple)? else {
+    let Some(target) = builtin(alloc, triple)? else {
         return Ok(Output::constant(UNKNOWN_TRIPLE, NOT_KNOWN));
     };
-    result_output(alloc, parse_and_eval(alloc, &row, text))
+    result_output(alloc, parse_and_eval(alloc, &target, text))
 }
 
-/// Parses `text` and evaluates it on the target in `row`.
+/// Parses `text` and evaluates it on `target`.
 fn parse_and_eval<A: SmallAllocator>(
     alloc: A,
-    row: &TargetInfo<'_, A>,
+    target: &TargetInfo<'_, A>,
     text: &str,
 ) -> Result<Option<bool>, Failure<A>>
-    ensures { FitsResult (HasValueBy (answer_on row.now) text.now) result }
+    ensures { FitsResult (HasValueBy (answer_on target.now) text.now) result }
 {
     let condition = Expression::parse(alloc, text)?;
-    Ok(eval_on_target(alloc, &condition, row)?)
+    Ok(eval_on_target(alloc, &condition, target)?)
 }
 
 /// Returns the output of `pick`: the verdicts of the built-in target with `triple` on the sections
@@ -169,25 +169,25 @@ fn pick_output<A: SmallAllocator, R: Source>(
     ensures front { ReadsFront (R.unread source.old) (R.unread source.new) }
     ensures others { ¬ TakesInput (Request.pick triple.now) → source.new ≡ source.old }
 {
-    let Some(row) = builtin(alloc, triple)? else {
+    let Some(target) = builtin(alloc, triple)? else {
         return Ok(Output::constant(UNKNOWN_TRIPLE, NOT_KNOWN));
     };
     let input = read_input(alloc, source)?;
-    Ok(input_output(alloc, &row, input)?)
+    Ok(input_output(alloc, &target, input)?)
 }
 
 /// Returns the output of `pick` for an input that was read.
 fn input_output<A: SmallAllocator>(
     alloc: A,
-    row: &TargetInfo<'_, A>,
+    target: &TargetInfo<'_, A>,
     input: Input<A>,
 ) -> Result<Output<A>, AllocError>
     requires { IsShort input }
-    ensures { IfOk result (λ output. PicksFrom (answer_on row.now) input (output_view output)) }
+    ensures { IfOk result (λ output. PicksFrom (answer_on target.now) input (output_view output)) }
 {
     match input {
         Input::Bytes(bytes) => match str::from_utf8(bytes.as_slice()) {
-            Ok(text) => sections_output(alloc, row, text),
+            Ok(text) => sections_output(alloc, target, text),
             Err(_) => Ok(Output::constant(NOT_UTF8, FAULTY)),
         },
         Input::TooLong => Ok(Output::constant(TOO_LONG, FAULTY)),

@@ -52,19 +52,19 @@ enum Line<'a> {
     Section { name: &'a str, condition: &'a str },
 }
 
-/// Returns the output for `text`: the verdict of the target `row` on each section, with the two
+/// Returns the output for `text`: the verdict of `target` on each section, with the two
 /// fillings if it is unknown. If a line is faulty, the output is the message of the first such line
 /// alone.
 pub(super) fn sections_output<A: SmallAllocator>(
     alloc: A,
-    row: &TargetInfo<'_, A>,
+    target: &TargetInfo<'_, A>,
     text: &str,
 ) -> Result<Output<A>, AllocError>
     requires { length text.now ≤ input_limit }
     ensures { IfOk result (λ output.
-        PrintsLines (answer_on row.now) (map line_of (lines_of text.now)) (output_view output)) }
+        PrintsLines (answer_on target.now) (map line_of (lines_of text.now)) (output_view output)) }
 {
-    match print_lines(alloc, row, text) {
+    match print_lines(alloc, target, text) {
         Ok(printed) => Ok(Output::done(printed)),
         Err(LineError::Faulty(message)) => Ok(Output::faulty(message)),
         Err(LineError::Memory(error)) => Err(error),
@@ -74,17 +74,17 @@ pub(super) fn sections_output<A: SmallAllocator>(
 /// Returns the output of the lines of `text`, one after another.
 fn print_lines<A: SmallAllocator>(
     alloc: A,
-    row: &TargetInfo<'_, A>,
+    target: &TargetInfo<'_, A>,
     text: &str,
 ) -> Result<Vec<u8, A>, LineError<A>>
     requires { length text.now ≤ input_limit }
-    ensures ok { IfOk result (λ printed. PrintsLines (answer_on row.now)
+    ensures ok { IfOk result (λ printed. PrintsLines (answer_on target.now)
         (map line_of (lines_of text.now)) (record { bytes = printed.items; status = 0 })) }
-    ensures err { IfErr result (IfMessage (λ message. PrintsLines (answer_on row.now)
+    ensures err { IfErr result (IfMessage (λ message. PrintsLines (answer_on target.now)
         (map line_of (lines_of text.now)) (faulty_output message))) }
 {
     let mut reader = ConditionReader::new(alloc);
-    let mut printer = SectionPrinter::new(alloc, row);
+    let mut printer = SectionPrinter::new(alloc, target);
     let mut number = 0;
     for line in text.split('\n') {
         number += 1;
@@ -138,21 +138,21 @@ fn name_len(bytes: &[u8]) -> usize
 #[derive(Drop)]
 struct SectionPrinter<'t, A: SmallAllocator> {
     alloc: A,
-    row: &'t TargetInfo<'t, A>,
+    target: &'t TargetInfo<'t, A>,
     decider: Decider<A>,
     /// What is printed so far
     printed: Vec<u8, A>,
 }
 
 impl<'t, A: SmallAllocator> SectionPrinter<'t, A> {
-    /// Makes a printer for the target `row` that has printed nothing. Takes no memory.
-    fn new(alloc: A, row: &'t TargetInfo<'t, A>) -> Self
-        ensures row { result.row.now ≡ row.now }
+    /// Makes a printer for `target` that has printed nothing. Takes no memory.
+    fn new(alloc: A, target: &'t TargetInfo<'t, A>) -> Self
+        ensures target { result.target.now ≡ target.now }
         ensures printed { result.printed.items ≡ [] }
     {
         SectionPrinter {
             alloc,
-            row,
+            target,
             decider: Decider::new(alloc),
             printed: Vec::new(alloc),
         }
@@ -165,11 +165,11 @@ impl<'t, A: SmallAllocator> SectionPrinter<'t, A> {
         line: Line<'a>,
         reader: &mut ConditionReader<'a, A>,
     ) -> Result<(), LineError<A>>
-        ensures ok { OnOk result (AddsLine (answer_on self.old.row.now) number
+        ensures ok { OnOk result (AddsLine (answer_on self.old.target.now) number
             (line_view line.entry) self.old.printed.items self.new.printed.items) }
         ensures err { IfErr result (IfMessage (λ message. PrintsLine
-            (answer_on self.old.row.now) (number, line_view line.entry) (Err message))) }
-        ensures row { self.new.row.now ≡ self.old.row.now }
+            (answer_on self.old.target.now) (number, line_view line.entry) (Err message))) }
+        ensures target { self.new.target.now ≡ self.old.target.now }
     {
         match line {
             Line::Empty => Ok(()),
@@ -189,11 +189,11 @@ impl<'t, A: SmallAllocator> SectionPrinter<'t, A> {
 
     /// Pushes the name of a section and the verdict of the target on its condition.
     fn push_section(&mut self, name: &str, condition: &Condition<'_>) -> Result<(), AllocError>
-        ensures adds { OnOk result (AddsVerdict self.old.row.now condition.now
+        ensures adds { OnOk result (AddsVerdict self.old.target.now condition.now
             (self.old.printed.items ++ name.now) self.new.printed.items) }
-        ensures row { self.new.row.now ≡ self.old.row.now }
+        ensures target { self.new.target.now ≡ self.old.target.now }
     {
-        self.decider.decide(condition, self.row)?;
+        self.decider.decide(condition, self.target)?;
         self.printed.extend_from_slice(name.as_bytes())?;
         push_decision(&self.decider.decision, &mut self.printed)
     }

@@ -6,7 +6,7 @@ use Rattle.cfgx_engine.proofs.engine.output.parse_and_eval.Goals as goal
 pub returns-in_err-condition : goal.returns-in_err-condition
 returns-in_err-condition g c =
     let p = err_from_is_err_and c.from_residual.result c.from_residual.ensures.1 in
-    let Valued = HasValueBy (answer_on {A = g.row.A.Denot} c.args.row.now) c.args.text.now in
+    let Valued = HasValueBy (answer_on {A = g.row.A.Denot} c.args.target.now) c.args.text.now in
     rw (p.1, p.2) (IfSome_then _ {Q = λ fault. Valued (Err fault)}
     (Fails-parse {A = g.row.A.Denot} c.args.text.now _ c.in_err-condition.ensures)
     (λ fault reads. (Err fault, reads, refl)))

@@ -12,7 +12,7 @@ pub loop-line-init : goal.loop-line-init
 loop-line-init g c =
     let text = c.args.text.now in
     record {
-      same = sym c.new-printer.ensures.row;
+      same = sym c.new-printer.ensures.target;
       left = record {
         pieces = slice_split (λ byte. byte == 10) text;
         yields = YieldsList-at c.into_iter-line-iterator.ensures.into_iter_gives
@@ -44,16 +44,16 @@ loop-line-preserved g c =
     let next = yields-some left.pieces left.yields c.in-Some.line c.next.new.self
     c.in-Some.ensures.steps in
     let adds = c.in_ok-push_line.ensures.ok in
-    let row_is = c.in_ok-push_line.ensures.row in
+    let kept = c.in_ok-push_line.ensures.target in
     record {
-      same = c.loop-line.invariant.same ∙ sym row_is;
+      same = c.loop-line.invariant.same ∙ sym kept;
       left = record {
         pieces = next.0;
         yields = next.2;
         few = omega (arith, left.few, ap length next.1);
-        prints = λ shown rest. rw row_is (left.prints shown (PrintsRest-more _ _ _ _ next.0 next.1
+        prints = λ shown rest. rw kept (left.prints shown (PrintsRest-more _ _ _ _ next.0 next.1
             (c.split_line.ensures ∙ ap line_of c.without_return.ensures) _ adds.0 shown adds.1
-            (rw (row_is, adds.2) at rest)));
+            (rw (kept, adds.2) at rest)));
       };
     }
 

@@ -4,7 +4,7 @@ use Rattle.cfgx_engine.proofs.engine.sections.print_lines.Given as goal
 
 abbrev pub invariant-loop-line : goal.invariant-loop-line
 invariant-loop-line g l = record {
-  same : l.fn.row ≡ l.printer.row.now;
-  left : Left (answer_on l.printer.row.now) (lines_of l.fn.text) l.line-iterator l.number
+  same : l.fn.target ≡ l.printer.target.now;
+  left : Left (answer_on l.printer.target.now) (lines_of l.fn.text) l.line-iterator l.number
       l.printer.printed.items;
 }

@@ -8,7 +8,7 @@ pub returns-clause-adds : goal.returns-clause-adds
 returns-clause-adds g c =
     let decided = c.in_ok-decide.ensures.decision in
     let tree = decided.0.tree in
-    let answers = map (answer_on {A = g.row.A.Denot} c.args.self.now.row.now) (asked tree) in
+    let answers = map (answer_on {A = g.row.A.Denot} c.args.self.now.target.now) (asked tree) in
     let is = verdict_lines-decision {A = g.row.A.Denot} tree answers c.decide.new.self.decision
     decided.1.is in
     let name_is = c.as_bytes.ensures.value in
