@@ -88,13 +88,13 @@ fn print_lines<A: SmallAllocator>(
     let mut number = 0;
     for line in text.split('\n') {
         number += 1;
-        printer.push_line(number, split_line(without_return(line)), &mut reader)?;
+        printer.push_line(number, split_line(strip_carriage_return(line)), &mut reader)?;
     }
     Ok(printer.into_printed())
 }
 
 /// Returns `line` without the carriage return that it may end with.
-fn without_return(line: &str) -> &str
+fn strip_carriage_return(line: &str) -> &str
     ensures { result.now ≡ strip_carriage_return line.now }
 {
     match line.strip_suffix("\r") {

@@ -34,7 +34,7 @@ returns-in_err-push_line-clause-err g c =
     rw (c.loop-line.invariant.same, p.1, p.2)
     (IfMessage-weaker {A = g.row.A.Denot} _ _ _ (λ message prints.
     left.prints (faulty_output message) (PrintsRest-fault _ _ _ _ next.0 next.1
-    (c.split_line.ensures ∙ ap line_of c.without_return.ensures) _ message _ prints refl))
+    (c.split_line.ensures ∙ ap line_of c.strip_carriage_return.ensures) _ message _ prints refl))
     c.in_err-push_line.ensures.err)
 
 -- the next line is printed
@@ -52,7 +52,7 @@ loop-line-preserved g c =
         yields = next.2;
         few = omega (arith, left.few, ap length next.1);
         prints = λ shown rest. rw kept (left.prints shown (PrintsRest-more _ _ _ _ next.0 next.1
-            (c.split_line.ensures ∙ ap line_of c.without_return.ensures) _ adds.0 shown adds.1
+            (c.split_line.ensures ∙ ap line_of c.strip_carriage_return.ensures) _ adds.0 shown adds.1
             (rw (kept, adds.2) at rest)));
       };
     }

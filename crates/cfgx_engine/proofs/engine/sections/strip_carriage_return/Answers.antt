@@ -2,7 +2,7 @@ use Rattle.std.proofs.Common.{◌≡◌, ◌≢◌, ℕ, ◌-◌, ◌+◌, ◌==
 use Rattle.std.proofs.Common.{slice_index, refl, ap, sym, ◌∙◌, arith, eqb-true}
 use Rattle.std.{proofs.lemmas.Bool.false_from_ne_true, specs.Str.Lines.strip_carriage_return}
 use Rattle.std.proofs.lemmas.List.{take_all, take_more}
-use Rattle.cfgx_engine.proofs.engine.sections.without_return.Goals as goal
+use Rattle.cfgx_engine.proofs.engine.sections.strip_carriage_return.Goals as goal
 
 -- a text without a carriage return at its end stays the same
 keep-return : (text : List ℕ) → ((front : List ℕ) → text ≢ front ++ 13 ∷ [])
