@@ -21,8 +21,8 @@ use Rattle.cfgx_engine.specs.Facts.{AreFacts, FactTexts, IsAnswer, IsFirstFaulty
 use Rattle.cfgx_engine.specs.Facts.{NameAlike, Names, ReadsFacts, fact_text, texts_of}
 use Rattle.cfgx_engine.specs.Facts.{true_text, unknown_text}
 use Rattle.cfgx_engine.specs.declared.resolve.facts.Otherwise.{Otherwise}
-use Rattle.cfgx_engine.specs.declared.resolve.facts.OnUnaskable.{OnUnaskable}
-use Rattle.cfgx_engine.specs.declared.resolve.facts.OnUnaskable.TheVariants as unaskable
+use Rattle.cfgx_engine.specs.declared.resolve.facts.UnaskableFacts.{UnaskableFacts}
+use Rattle.cfgx_engine.specs.declared.resolve.facts.UnaskableFacts.TheVariants as unaskable_facts
 use Rattle.cfgx_engine.specs.internal.ReadsFacts.{AddsFact, AddsText, IsText, accepts, error_at}
 use Rattle.cfgx_engine.specs.internal.ReadsFacts.{joined}
 use Rattle.cfgx_engine.specs.internal.Names.{AreNames, Code, IsName, code_of, facts_in}
@@ -105,38 +105,40 @@ IsNamed-same : (texts : List (List ℕ)) (question : Question)
 IsNamed-same texts question = rw append-nil (λ named. named, λ named. named)
 
 -- the codes of a text tell what it names
-Names-codes : (passed : OnUnaskable) (text : List ℕ) (added : List Code) → IsText passed text added
-    → (question : Question) → Names text question ↔ Contains added (code_of question)
-Names-codes passed text added (inl (questions, asks, is)) question =
+Names-codes : (unaskable : UnaskableFacts) (text : List ℕ) (added : List Code)
+    → IsText unaskable text added → (question : Question)
+    → Names text question ↔ Contains added (code_of question)
+Names-codes unaskable text added (inl (questions, asks, is)) question =
     let codes = Contains-codes questions question in
     rw is (
       λ (tree, has, among). codes.1 (rw (only_tree asks.asked.0 tree has, ← asks.asked.1) at among),
       λ among. (asks.asked.0.tree, asks.asked.0.reads.has, rw (← asks.asked.1) (codes.0 among)),
     )
-Names-codes passed text added (inr (passes, nothing, is)) question = (
+Names-codes unaskable text added (inr (passes, nothing, is)) question = (
   λ names. absurd (nothing question names),
   λ (k, below, _). absurd (grind (arith, is)),
 )
 
 -- a text was added to texts, or passed over
-pub record Pushes (passed : OnUnaskable) (text : List ℕ) (old new : List (List ℕ)) : Type 0 where
-  pub taken : HasOneTree (strip text) ⊎ passes_over passed (strip text)
+pub record Pushes (unaskable : UnaskableFacts) (text : List ℕ) (old new : List (List ℕ))
+    : Type 0 where
+  pub taken : HasOneTree (strip text) ⊎ passes_over unaskable (strip text)
   pub alike : (question : Question)
       → IsNamed new question ↔ IsNamed (old ++ strip text ∷ []) question
 
-module _ (passed : OnUnaskable) (text : List ℕ) (old new : List Code) (named : AreNames old)
-    (adds : AddsText passed text old new) where
+module _ (unaskable : UnaskableFacts) (text : List ℕ) (old new : List Code) (named : AreNames old)
+    (adds : AddsText unaskable text old new) where
   pub AreNames-added : AreNames new
   AreNames-added = rw adds.2 (⊎_elim
       (λ (questions, asks, is). rw is (AreNames-append old questions named asks.well_formed))
       (λ (passes, nothing, is). rw (is, append-nil) named) adds.1)
 
-  taken_text : IsText passed (strip text) adds.0
-      → HasOneTree (strip text) ⊎ passes_over passed (strip text)
+  taken_text : IsText unaskable (strip text) adds.0
+      → HasOneTree (strip text) ⊎ passes_over unaskable (strip text)
   taken_text (inl (questions, asks, is)) = inl asks.asked.0
   taken_text (inr (passes, nothing, is)) = inr passes
 
-  pub Pushes-added : Pushes passed text (spelled old) (spelled new)
+  pub Pushes-added : Pushes unaskable text (spelled old) (spelled new)
   Pushes-added = record {
     taken = taken_text adds.1;
     alike = λ question.
@@ -144,7 +146,7 @@ module _ (passed : OnUnaskable) (text : List ℕ) (old new : List Code) (named :
         let after = IsNamed-spelled new question AreNames-added in
         let both = IsNamed-append (spelled old) (strip text ∷ []) question in
         let one = IsNamed-one (strip text) question in
-        let codes = Names-codes passed (strip text) adds.0 adds.1 question in (
+        let codes = Names-codes unaskable (strip text) adds.0 adds.1 question in (
           λ names. both.1 (⊎_elim (λ left. inl (before.1 left))
               (λ right. inr (one.1 (codes.1 right)))
               (Contains-append_cases old adds.0 _ (rw adds.2 at (after.0 names)))),
@@ -156,34 +158,36 @@ module _ (passed : OnUnaskable) (text : List ℕ) (old new : List Code) (named :
   }
 
 -- a fact is accepted if its text has one tree or is passed over
-accepts-text : (passed : OnUnaskable) (fact text : List ℕ) → fact_text fact ≡ text
-    → HasOneTree (strip text) ⊎ passes_over passed (strip text) → accepts passed fact
-accepts-text unaskable.Refuse fact text is one =
+accepts-text : (unaskable : UnaskableFacts) (fact text : List ℕ) → fact_text fact ≡ text
+    → HasOneTree (strip text) ⊎ passes_over unaskable (strip text) → accepts unaskable fact
+accepts-text unaskable_facts.Refused fact text is one =
     ⊎_elim (λ tree. rw is tree) (λ none. absurd none) one
-accepts-text unaskable.PassOver fact text is one = rw is one
+accepts-text unaskable_facts.PassedOver fact text is one = rw is one
 
-pub AddsFact-unknown : (passed : OnUnaskable) (fact text : List ℕ) (old : FactTexts)
+pub AddsFact-unknown : (unaskable : UnaskableFacts) (fact text : List ℕ) (old : FactTexts)
     (new : List (List ℕ)) → unknown_text fact ≡ Some text
-    → Pushes passed text old.of_unknown new
-    → AddsFact (accepts passed) fact old (record { of_true = old.of_true; of_unknown = new })
-AddsFact-unknown passed fact text old new marked pushes = record {
-  accepted = accepts-text passed fact text (rw marked refl) pushes.taken;
+    → Pushes unaskable text old.unknown_texts new
+    → AddsFact (accepts unaskable) fact old
+    (record { true_texts = old.true_texts; unknown_texts = new })
+AddsFact-unknown unaskable fact text old new marked pushes = record {
+  accepted = accepts-text unaskable fact text (rw marked refl) pushes.taken;
   alike = record {
-    true_alike = λ question. rw marked (IsNamed-same old.of_true question);
+    true_alike = λ question. rw marked (IsNamed-same old.true_texts question);
     unknown_alike = λ question.
         rw marked (pushes.alike question);
   };
 }
 
-pub AddsFact-true : (passed : OnUnaskable) (fact : List ℕ) (old : FactTexts)
-    (new : List (List ℕ)) → unknown_text fact ≡ None → Pushes passed fact old.of_true new
-    → AddsFact (accepts passed) fact old (record { of_true = new; of_unknown = old.of_unknown })
-AddsFact-true passed fact old new unmarked pushes = record {
-  accepted = accepts-text passed fact fact (rw unmarked refl) pushes.taken;
+pub AddsFact-true : (unaskable : UnaskableFacts) (fact : List ℕ) (old : FactTexts)
+    (new : List (List ℕ)) → unknown_text fact ≡ None → Pushes unaskable fact old.true_texts new
+    → AddsFact (accepts unaskable) fact old
+    (record { true_texts = new; unknown_texts = old.unknown_texts })
+AddsFact-true unaskable fact old new unmarked pushes = record {
+  accepted = accepts-text unaskable fact fact (rw unmarked refl) pushes.taken;
   alike = record {
     true_alike = λ question.
         rw unmarked (pushes.alike question);
-    unknown_alike = λ question. rw unmarked (IsNamed-same old.of_unknown question);
+    unknown_alike = λ question. rw unmarked (IsNamed-same old.unknown_texts question);
   };
 }
 
@@ -198,20 +202,22 @@ pub true_and_false : (b : Bool) → b ≡ true → b ≡ false → ⊥
 true_and_false b is not = absurd cc
 
 -- a fact is not accepted if its text has a fault and is not passed over
-refuses : (passed : OnUnaskable) (fact : List ℕ) (fault : TextFault)
-    → ParsesAs (fact_text fact) (Err fault) → ¬ passes_over passed (strip (fact_text fact))
-    → ¬ accepts passed fact
-refuses unaskable.Refuse fact fault parses fails = λ one. not_both parses.1 one
-refuses unaskable.PassOver fact fault parses fails = λ one.
+refuses : (unaskable : UnaskableFacts) (fact : List ℕ) (fault : TextFault)
+    → ParsesAs (fact_text fact) (Err fault) → ¬ passes_over unaskable (strip (fact_text fact))
+    → ¬ accepts unaskable fact
+refuses unaskable_facts.Refused fact fault parses fails = λ one. not_both parses.1 one
+refuses unaskable_facts.PassedOver fact fault parses fails = λ one.
     ⊎_elim (λ tree. not_both parses.1 tree) fails one
 
-pub Fails-refused : {A : Type 0} (passed : OnUnaskable) (fact text : List ℕ) (failed : Failure A)
-    → fact_text fact ≡ text
-    → Fails {A = A} (λ fault. ParsesAs text (Err fault) × ¬ passes_over passed (strip text)) failed
-    → Fails {A = A} (λ fault. ParsesAs (fact_text fact) (Err fault) × ¬ accepts passed fact) failed
-Fails-refused {A} passed fact text failed is fails = IfSome_then (failure_of {A = A} failed) fails
-    (λ fault both. let parses = rw (← is) at both.0 in
-    (parses, refuses passed fact fault parses (rw (← is) at both.1)))
+pub Fails-refused : {A : Type 0} (unaskable : UnaskableFacts) (fact text : List ℕ)
+    (failed : Failure A) → fact_text fact ≡ text
+    → Fails {A = A} (λ fault. ParsesAs text (Err fault) × ¬ passes_over unaskable (strip text))
+    failed
+    → Fails {A = A} (λ fault. ParsesAs (fact_text fact) (Err fault) × ¬ accepts unaskable fact)
+    failed
+Fails-refused {A} unaskable fact text failed is fails =
+    IfSome_then (failure_of {A = A} failed) fails (λ fault both. let parses = rw (← is) at both.0 in
+    (parses, refuses unaskable fact fault parses (rw (← is) at both.1)))
 
 -- sorted codes name what they did
 pub IsNamed-sorted : (old new : List Code) → AreNames old → IsPermutation old new
@@ -225,20 +231,21 @@ IsNamed-sorted old new named moves question =
     )
 
 pub AreFacts-sorted : (Accepts : List ℕ → Type 0) (facts : List (List ℕ))
-    (of_true of_unknown new_true new_unknown : List Code) → AreNames of_true → AreNames of_unknown
-    → IsPermutation of_true new_true → IsPermutation of_unknown new_unknown
-    → AreFacts Accepts facts (facts_in of_true of_unknown)
+    (true_names unknown_names new_true new_unknown : List Code) → AreNames true_names
+    → AreNames unknown_names
+    → IsPermutation true_names new_true → IsPermutation unknown_names new_unknown
+    → AreFacts Accepts facts (facts_in true_names unknown_names)
     → AreFacts Accepts facts (facts_in new_true new_unknown)
-AreFacts-sorted Accepts facts of_true of_unknown new_true new_unknown named named' moves moves'
-    are = record {
+AreFacts-sorted Accepts facts true_names unknown_names new_true new_unknown named named' moves
+    moves' are = record {
       each = are.each;
       alike = record {
         true_alike = λ question.
-            let same = IsNamed-sorted of_true new_true named moves question in
+            let same = IsNamed-sorted true_names new_true named moves question in
             let alike = are.alike.true_alike question in
             (λ is. alike.0 (same.0 is), λ is. same.1 (alike.1 is));
         unknown_alike = λ question.
-            let same = IsNamed-sorted of_unknown new_unknown named' moves' question in
+            let same = IsNamed-sorted unknown_names new_unknown named' moves' question in
             let alike = are.alike.unknown_alike question in
             (λ is. alike.0 (same.0 is), λ is. same.1 (alike.1 is));
       };

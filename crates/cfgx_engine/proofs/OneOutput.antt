@@ -232,8 +232,8 @@ module _ (Q : List ℕ → Type 0) (tested : (text : List ℕ) → is_utf8 text 
           (Any-known (same-known question well_formed) _ (well_formed_tree text tree read.has))
 
   -- the answers of the flags
-  module _ (facts : FactTexts) (unnamed : Otherwise) (these : AllByRecursion Q facts.of_true)
-      (those : AllByRecursion Q facts.of_unknown) where
+  module _ (facts : FactTexts) (unnamed : Otherwise) (these : AllByRecursion Q facts.true_texts)
+      (those : AllByRecursion Q facts.unknown_texts) where
     answers-some : (questions : List Question) → AllByRecursion IsWellFormed questions
         → HasSome (AllZip (IsAnswer facts unnamed) questions)
     answers-some [] all = ([], tt)
@@ -243,12 +243,12 @@ module _ (Q : List ℕ → Type 0) (tested : (text : List ℕ) → is_utf8 text 
         ⊎_elim (λ is. (Some true ∷ rest.0, (inl (is, refl), rest.1))) (λ not.
         ⊎_elim (λ is. (None ∷ rest.0, (inr (inl (not, is, refl)), rest.1))) (λ none.
         (unnamed_answer unnamed question ∷ rest.0, (inr (inr (not, none, refl)), rest.1)))
-        (Any-known names facts.of_unknown those)) (Any-known names facts.of_true these)
+        (Any-known names facts.unknown_texts those)) (Any-known names facts.true_texts these)
 
   flags-are : (R : List ℕ → Type 0) → ((text : List ℕ) → Q text → R text)
       → (flags : List (List ℕ)) → AllByRecursion Q flags → AllByRecursion R (map fact_text flags)
-      × AllByRecursion Q (texts_of flags).of_true
-      × AllByRecursion Q (texts_of flags).of_unknown
+      × AllByRecursion Q (texts_of flags).true_texts
+      × AllByRecursion Q (texts_of flags).unknown_texts
   flags-are R each [] all = (tt, tt, tt)
   flags-are R each (flag ∷ flags) all =
       let rest = flags-are R each flags all.1 in
@@ -261,8 +261,8 @@ module _ (Q : List ℕ → Type 0) (tested : (text : List ℕ) → is_utf8 text 
       valued texts.1 texts.2
       (GivesAll-some ParsesAs (text ∷ map fact_text flags) (ParsesAs-some text is, texts.0))
     where
-      valued : AllByRecursion Q (texts_of flags).of_true
-          → AllByRecursion Q (texts_of flags).of_unknown
+      valued : AllByRecursion Q (texts_of flags).true_texts
+          → AllByRecursion Q (texts_of flags).unknown_texts
           → HasSome (GivesAll ParsesAs (text ∷ map fact_text flags)) → HasSome (HasValue text flags)
       valued known unknown (Err fault, gives) = (Err fault, (Err fault, gives, refl))
       valued known unknown (Ok [], gives) = absurd (grind arith)

@@ -34,14 +34,14 @@ fact_text fact = unwrap_or (unknown_text fact) fact
 -- texts whose predicates are true, and texts whose predicates are unknown, each without an outer
 -- `cfg( )`
 pub record FactTexts : Type 0 where
-  pub of_true : List (List ℕ)
-  pub of_unknown : List (List ℕ)
+  pub true_texts : List (List ℕ)
+  pub unknown_texts : List (List ℕ)
 
 -- the texts of facts
 abbrev pub texts_of : List (List ℕ) → FactTexts
 texts_of facts = record {
-  of_true = map strip (filter_map true_text facts);
-  of_unknown = map strip (filter_map unknown_text facts);
+  true_texts = map strip (filter_map true_text facts);
+  unknown_texts = map strip (filter_map unknown_text facts);
 }
 
 -- the text's tree asks the question
@@ -72,17 +72,17 @@ unnamed_answer otherwise.Unknown question = None
 -- unknown predicates names it, else that of a question that no text names
 abbrev pub IsAnswer : FactTexts → Otherwise → Question → Option Bool → Type 0
 IsAnswer facts otherwise question answer =
-    (IsNamed facts.of_true question × (answer ≡ Some true))
-    ⊎ (¬ IsNamed facts.of_true question × IsNamed facts.of_unknown question × (answer ≡ None))
-    ⊎ (¬ IsNamed facts.of_true question × ¬ IsNamed facts.of_unknown question
+    (IsNamed facts.true_texts question × (answer ≡ Some true))
+    ⊎ (¬ IsNamed facts.true_texts question × IsNamed facts.unknown_texts question × (answer ≡ None))
+    ⊎ (¬ IsNamed facts.true_texts question × ¬ IsNamed facts.unknown_texts question
     × (answer ≡ unnamed_answer otherwise question))
 
 -- both name the same questions as true, and the same as unknown
 pub record NameAlike (one other : FactTexts) : Type 0 where
   pub true_alike : (question : Question)
-      → IsNamed one.of_true question ↔ IsNamed other.of_true question
+      → IsNamed one.true_texts question ↔ IsNamed other.true_texts question
   pub unknown_alike : (question : Question)
-      → IsNamed one.of_unknown question ↔ IsNamed other.of_unknown question
+      → IsNamed one.unknown_texts question ↔ IsNamed other.unknown_texts question
 
 -- a fact that `cfgx eval` takes: its text is a condition
 abbrev pub IsFlag : List ℕ → Type 0

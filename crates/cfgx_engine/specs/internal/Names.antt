@@ -115,8 +115,8 @@ spelled names = map (λ name. spelling (question_in name)) names
 
 -- the texts that spell what is named as true and what is named as unknown
 abbrev pub facts_in : List Code → List Code → FactTexts
-facts_in of_true of_unknown =
-    record { of_true = spelled of_true; of_unknown = spelled of_unknown }
+facts_in true_names unknown_names =
+    record { true_texts = spelled true_names; unknown_texts = spelled unknown_names }
 
 -- the code of a question that can stand in a text
 abbrev pub IsName : Code → Type 0

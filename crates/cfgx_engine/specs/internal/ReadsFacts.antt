@@ -10,19 +10,19 @@ use Rattle.cfgx_engine.specs.Facts.{FactTexts, IsFlag, IsRustcFact}
 use Rattle.cfgx_engine.specs.Facts.{NameAlike, Names, texts_of}
 use Rattle.cfgx_engine.specs.declared.resolve.facts.FactsError.{FactsError}
 use Rattle.cfgx_engine.specs.declared.resolve.facts.FactsError.TheVariants as facts_error
-use Rattle.cfgx_engine.specs.declared.resolve.facts.OnUnaskable.{OnUnaskable}
-use Rattle.cfgx_engine.specs.declared.resolve.facts.OnUnaskable.TheVariants as unaskable
+use Rattle.cfgx_engine.specs.declared.resolve.facts.UnaskableFacts.{UnaskableFacts}
+use Rattle.cfgx_engine.specs.declared.resolve.facts.UnaskableFacts.TheVariants as unaskable_facts
 use Rattle.cfgx_engine.specs.internal.Names.{Code, code_of}
 
 -- the facts that are accepted
-abbrev pub accepts : OnUnaskable → List ℕ → Type 0
-accepts unaskable.Refuse fact = IsFlag fact
-accepts unaskable.PassOver fact = IsRustcFact fact
+abbrev pub accepts : UnaskableFacts → List ℕ → Type 0
+accepts unaskable_facts.Refused fact = IsFlag fact
+accepts unaskable_facts.PassedOver fact = IsRustcFact fact
 
 -- the texts that are passed over
-abbrev pub passes_over : OnUnaskable → List ℕ → Type 0
-passes_over unaskable.Refuse text = ⊥
-passes_over unaskable.PassOver text = IsUnaskable text
+abbrev pub passes_over : UnaskableFacts → List ℕ → Type 0
+passes_over unaskable_facts.Refused text = ⊥
+passes_over unaskable_facts.PassedOver text = IsUnaskable text
 
 -- the text asks nothing
 abbrev pub NamesNothing : List ℕ → Type 0
@@ -31,8 +31,8 @@ NamesNothing text = (question : Question) → ¬ Names text question
 -- the texts of both
 abbrev pub joined : FactTexts → FactTexts → FactTexts
 joined one other = record {
-  of_true = one.of_true ++ other.of_true;
-  of_unknown = one.of_unknown ++ other.of_unknown;
+  true_texts = one.true_texts ++ other.true_texts;
+  unknown_texts = one.unknown_texts ++ other.unknown_texts;
 }
 
 -- the fact is accepted, and the new texts name what the old ones and that of the fact name
@@ -41,15 +41,15 @@ pub record AddsFact (Accepts : List ℕ → Type 0) (fact : List ℕ) (old new :
   pub alike : NameAlike new (joined old (texts_of (fact ∷ [])))
 
 -- The codes of what the text asks, in order. A text that is passed over has none, and asks nothing
-abbrev pub IsText : OnUnaskable → List ℕ → List Code → Type 0
-IsText on_unaskable text added =
+abbrev pub IsText : UnaskableFacts → List ℕ → List Code → Type 0
+IsText unaskable text added =
     ((questions : List Question) × AsksInOrder text questions × (added ≡ map code_of questions))
-    ⊎ (passes_over on_unaskable text × NamesNothing text × (added ≡ []))
+    ⊎ (passes_over unaskable text × NamesNothing text × (added ≡ []))
 
 -- what the text of a fact names was added, unless the text is passed over
-abbrev pub AddsText : OnUnaskable → List ℕ → List Code → List Code → Type 0
-AddsText on_unaskable text old new = (added : List Code)
-    × IsText on_unaskable (strip text) added × (new ≡ old ++ added)
+abbrev pub AddsText : UnaskableFacts → List ℕ → List Code → List Code → Type 0
+AddsText unaskable text old new = (added : List Code)
+    × IsText unaskable (strip text) added × (new ≡ old ++ added)
 
 -- the error of a failure at the fact of this index
 abbrev pub error_at : {A : Type 0} → ℕ → Failure A → FactsError A

@@ -38,8 +38,8 @@ const DONE: u8 = 0;
 
 const FAULTY: u8 = 1;
 
-/// The status of wrong use, and of a triple that no built-in target has.
-const NOT_KNOWN: u8 = 2;
+/// The status if the words are wrong: wrong use, or a triple that no built-in target has.
+const WRONG_WORDS: u8 = 2;
 
 /// The bytes to write, and the exit status after them.
 #[derive(Drop)]
@@ -100,7 +100,7 @@ pub(super) fn output_of<A: SmallAllocator, R: Source>(
         Command::Eval(text, flags) => Ok(eval_output(alloc, text, flags)?),
         Command::Target(triple, text) => Ok(target_output(alloc, triple, text)?),
         Command::Pick(triple) => pick_output(alloc, triple, source),
-        Command::WrongUse => Ok(Output::constant(USAGE, NOT_KNOWN)),
+        Command::WrongUse => Ok(Output::constant(USAGE, WRONG_WORDS)),
     }
 }
 
@@ -138,7 +138,7 @@ fn target_output<A: SmallAllocator>(
         Prints (Request.target triple.now text.now) [] (output_view output)) }
 {
     let Some(target) = builtin(alloc, triple)? else {
-        return Ok(Output::constant(UNKNOWN_TRIPLE, NOT_KNOWN));
+        return Ok(Output::constant(UNKNOWN_TRIPLE, WRONG_WORDS));
     };
     result_output(alloc, parse_and_eval(alloc, &target, text))
 }
@@ -170,7 +170,7 @@ fn pick_output<A: SmallAllocator, R: Source>(
     ensures others { ¬ TakesInput (Request.pick triple.now) → source.new ≡ source.old }
 {
     let Some(target) = builtin(alloc, triple)? else {
-        return Ok(Output::constant(UNKNOWN_TRIPLE, NOT_KNOWN));
+        return Ok(Output::constant(UNKNOWN_TRIPLE, WRONG_WORDS));
     };
     let input = read_input(alloc, source)?;
     Ok(input_output(alloc, &target, input)?)

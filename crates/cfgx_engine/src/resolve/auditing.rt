@@ -54,19 +54,19 @@ impl<M: TargetMatcher> Answering<M> for ByMatching {
 /// predicate is asked once of each target, and the condition is evaluated once for each 64 targets.
 pub(super) fn push_values<A: SmallAllocator, T, S: Answering<T>, V: From<Option<bool>> + Drop>(
     alloc: A,
-    asker: &S,
+    answering: &S,
     condition: &Condition<'_>,
     targets: &[T],
     values: &mut Vec<V, A>,
 ) -> Result<(), AllocError>
     ensures { OnOk result (AddsEach
-        (λ target. TellsValue V.from_gives condition.now (S.answers asker.now target))
+        (λ target. TellsValue V.from_gives condition.now (S.answers answering.now target))
         targets.now values.old.items values.new.items) }
 {
     let mut left = targets;
     while !left.is_empty() {
         let (piece, others) = left.split_at(left.len().min(64));
-        push_piece(alloc, asker, condition, piece, values)?;
+        push_piece(alloc, answering, condition, piece, values)?;
         left = others;
     }
     Ok(())
@@ -75,17 +75,17 @@ pub(super) fn push_values<A: SmallAllocator, T, S: Answering<T>, V: From<Option<
 /// Evaluates the condition on each of at most 64 targets, and pushes each value, converted to `V`.
 fn push_piece<A: SmallAllocator, T, S: Answering<T>, V: From<Option<bool>> + Drop>(
     alloc: A,
-    asker: &S,
+    answering: &S,
     condition: &Condition<'_>,
     targets: &[T],
     values: &mut Vec<V, A>,
 ) -> Result<(), AllocError>
     requires { length targets.now ≤ 64 }
     ensures { OnOk result (AddsEach
-        (λ target. TellsValue V.from_gives condition.now (S.answers asker.now target))
+        (λ target. TellsValue V.from_gives condition.now (S.answers answering.now target))
         targets.now values.old.items values.new.items) }
 {
-    let answers = ask_all(alloc, asker, condition, targets)?;
+    let answers = ask_all(alloc, answering, condition, targets)?;
     let value = condition.eval_lanes(alloc, answers.as_slice())?;
     push_lanes(value, targets.len(), values)
 }
@@ -93,18 +93,18 @@ fn push_piece<A: SmallAllocator, T, S: Answering<T>, V: From<Option<bool>> + Dro
 /// Asks the targets each predicate of the condition, in order. Each target has a lane.
 fn ask_all<A: SmallAllocator, T, S: Answering<T>>(
     alloc: A,
-    asker: &S,
+    answering: &S,
     condition: &Condition<'_>,
     targets: &[T],
 ) -> Result<Vec<Kleene64, A>, AllocError>
     requires { length targets.now ≤ 64 }
     ensures { IfOk result (λ answers. (one : HasOneTree condition.now)
-        × AllZip (InLanes (S.answers asker.now) targets.now) (asked one.tree) answers.items) }
+        × AllZip (InLanes (S.answers answering.now) targets.now) (asked one.tree) answers.items) }
 {
     let predicates = condition.predicates();
     let mut answers = Vec::with_capacity(alloc, predicates.left())?;
     for predicate in predicates {
-        answers.push(asker.ask(targets, predicate))?;
+        answers.push(answering.ask(targets, predicate))?;
     }
     Ok(answers)
 }

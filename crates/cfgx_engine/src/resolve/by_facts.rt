@@ -32,7 +32,7 @@ struct ByFacts {
 impl<A: SmallAllocator> Answering<Facts<A>> for ByFacts {
     ghost use Rattle.cfgx_engine.specs.Facts.{IsAnswer};
 
-    ghost answers = { λ asker facts. IsAnswer facts asker.otherwise };
+    ghost answers = { λ answering facts. IsAnswer facts answering.otherwise };
 
     fn ask(&self, targets: &[Facts<A>], predicate: Predicate<'_>) -> Kleene64
         requires { length targets.now ≤ 64 }

@@ -91,13 +91,13 @@ impl<A: Allocator> From<FactsError<A>> for Failure<A> {
     }
 }
 
-/// What is done with a text that no condition can ask.
+/// What becomes of facts that no condition can ask.
 #[derive(Clone, Copy)]
-enum OnUnaskable {
-    /// It is refused, as every other text that is no condition
-    Refuse,
-    /// It is passed over
-    PassOver,
+enum UnaskableFacts {
+    /// They are refused, as is every other text that is no condition
+    Refused,
+    /// They are passed over
+    PassedOver,
 }
 
 /// What is known of a target: which predicates are true, and which are unknown. Contracts see texts
@@ -109,8 +109,8 @@ enum OnUnaskable {
 #[derive(Drop)]
 #[derive_where(Debug)]
 pub struct Facts<A: SmallAllocator = Global> {
-    of_true: Names<A>,
-    of_unknown: Names<A>,
+    true_names: Names<A>,
+    unknown_names: Names<A>,
 }
 
 impl<A: SmallAllocator> Model for Facts<A> {
@@ -119,9 +119,9 @@ impl<A: SmallAllocator> Model for Facts<A> {
 
     ghost Value = { FactTexts };
 
-    ghost view = { λ facts. facts_in facts.of_true facts.of_unknown };
+    ghost view = { λ facts. facts_in facts.true_names facts.unknown_names };
 
-    ghost invariant = { λ facts. AreFound facts.of_true × AreFound facts.of_unknown };
+    ghost invariant = { λ facts. AreFound facts.true_names × AreFound facts.unknown_names };
 }
 
 impl<A: SmallAllocator> Facts<A> {
@@ -134,7 +134,7 @@ impl<A: SmallAllocator> Facts<A> {
     pub fn from_flags(alloc: A, flags: &[&str]) -> Result<Facts<A>, FactsError<A>>
         ensures { ReadsFacts IsFlag (texts flags.now) result }
     {
-        Facts::read(alloc, flags, OnUnaskable::Refuse)
+        Facts::read(alloc, flags, UnaskableFacts::Refused)
     }
 
     /// Reads facts, such as the lines of `rustc --print cfg`, and returns them. A fact that no
@@ -149,34 +149,34 @@ impl<A: SmallAllocator> Facts<A> {
     pub fn from_rustc(alloc: A, lines: &[&str]) -> Result<Facts<A>, FactsError<A>>
         ensures { ReadsFacts IsRustcFact (texts lines.now) result }
     {
-        Facts::read(alloc, lines, OnUnaskable::PassOver)
+        Facts::read(alloc, lines, UnaskableFacts::PassedOver)
     }
 
     /// Reads `facts` one after another.
-    fn read(alloc: A, facts: &[&str], on_unaskable: OnUnaskable) -> Result<Facts<A>, FactsError<A>>
-        ensures { ReadsFacts (accepts on_unaskable) (texts facts.now) result }
+    fn read(alloc: A, facts: &[&str], unaskable: UnaskableFacts) -> Result<Facts<A>, FactsError<A>>
+        ensures { ReadsFacts (accepts unaskable) (texts facts.now) result }
     {
         let mut reader = ConditionReader::new(alloc);
-        let mut of_true = Names::new(alloc);
-        let mut of_unknown = Names::new(alloc);
+        let mut true_names = Names::new(alloc);
+        let mut unknown_names = Names::new(alloc);
         for (index, fact) in facts.iter().enumerate() {
             let added = add_fact(
                 alloc,
                 &mut reader,
-                &mut of_true,
-                &mut of_unknown,
+                &mut true_names,
+                &mut unknown_names,
                 fact,
-                on_unaskable,
+                unaskable,
             );
             if let Err(failure) = added {
                 return Err(FactsError::at(index, failure));
             }
         }
-        of_true.sort();
-        of_unknown.sort();
+        true_names.sort();
+        unknown_names.sort();
         Ok(Facts {
-            of_true,
-            of_unknown,
+            true_names,
+            unknown_names,
         })
     }
 
@@ -185,9 +185,9 @@ impl<A: SmallAllocator> Facts<A> {
     pub fn answer(&self, predicate: &Predicate<'_>, otherwise: Otherwise) -> Option<bool>
         ensures { IsAnswer self.now otherwise (question_of predicate.now) result }
     {
-        if self.of_true.has(predicate) {
+        if self.true_names.has(predicate) {
             Some(true)
-        } else if self.of_unknown.has(predicate) {
+        } else if self.unknown_names.has(predicate) {
             None
         } else {
             unnamed_answer(predicate, otherwise)
@@ -199,21 +199,21 @@ impl<A: SmallAllocator> Facts<A> {
 fn add_fact<'a, A: SmallAllocator>(
     alloc: A,
     reader: &mut ConditionReader<'a, A>,
-    of_true: &mut Names<A>,
-    of_unknown: &mut Names<A>,
+    true_names: &mut Names<A>,
+    unknown_names: &mut Names<A>,
     fact: &'a str,
-    on_unaskable: OnUnaskable,
+    unaskable: UnaskableFacts,
 ) -> Result<(), Failure<A>>
-    requires { AreNames of_true.old × AreNames of_unknown.old }
-    ensures named { OnOk result (AreNames of_true.new × AreNames of_unknown.new) }
-    ensures ok { OnOk result (AddsFact (accepts on_unaskable) fact.now
-        (facts_in of_true.old of_unknown.old) (facts_in of_true.new of_unknown.new)) }
+    requires { AreNames true_names.old × AreNames unknown_names.old }
+    ensures named { OnOk result (AreNames true_names.new × AreNames unknown_names.new) }
+    ensures ok { OnOk result (AddsFact (accepts unaskable) fact.now
+        (facts_in true_names.old unknown_names.old) (facts_in true_names.new unknown_names.new)) }
     ensures err { IfErr result (Fails (λ fault. ParsesAs (fact_text fact.now) (Err fault)
-        × ¬ accepts on_unaskable fact.now)) }
+        × ¬ accepts unaskable fact.now)) }
 {
     match fact.strip_prefix('?') {
-        Some(text) => add_text(alloc, reader, of_unknown, text, on_unaskable),
-        None => add_text(alloc, reader, of_true, fact, on_unaskable),
+        Some(text) => add_text(alloc, reader, unknown_names, text, unaskable),
+        None => add_text(alloc, reader, true_names, fact, unaskable),
     }
 }
 
@@ -223,17 +223,17 @@ fn add_text<'a, A: SmallAllocator>(
     reader: &mut ConditionReader<'a, A>,
     names: &mut Names<A>,
     text: &'a str,
-    on_unaskable: OnUnaskable,
+    unaskable: UnaskableFacts,
 ) -> Result<(), Failure<A>>
-    ensures ok { OnOk result (AddsText on_unaskable text.now names.old names.new) }
+    ensures ok { OnOk result (AddsText unaskable text.now names.old names.new) }
     ensures err { IfErr result (Fails (λ fault. ParsesAs text.now (Err fault)
-        × ¬ passes_over on_unaskable (strip text.now))) }
+        × ¬ passes_over unaskable (strip text.now))) }
 {
     match reader.read(text) {
         Ok(condition) => Ok(names.add(condition.predicates())?),
-        Err(Failure::Parse(error)) => match on_unaskable {
-            OnUnaskable::Refuse => Err(Failure::Parse(error)),
-            OnUnaskable::PassOver => {
+        Err(Failure::Parse(error)) => match unaskable {
+            UnaskableFacts::Refused => Err(Failure::Parse(error)),
+            UnaskableFacts::PassedOver => {
                 if is_unaskable(alloc, text)? {
                     Ok(())
                 } else {

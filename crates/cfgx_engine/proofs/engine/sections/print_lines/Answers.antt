@@ -52,8 +52,8 @@ loop-line-preserved g c =
         yields = next.2;
         few = omega (arith, left.few, ap length next.1);
         prints = λ shown rest. rw kept (left.prints shown (PrintsRest-more _ _ _ _ next.0 next.1
-            (c.split_line.ensures ∙ ap line_of c.strip_carriage_return.ensures) _ adds.0 shown adds.1
-            (rw (kept, adds.2) at rest)));
+            (c.split_line.ensures ∙ ap line_of c.strip_carriage_return.ensures) _ adds.0 shown
+            adds.1 (rw (kept, adds.2) at rest)));
       };
     }
 

@@ -11,7 +11,7 @@ eval_lanes-requires g c =
       found.0.tree,
       found.0.reads.has,
       ap length c.as_slice.ensures.value
-          ∙ AllZip-long (InLanes (g.S.Answering.answers c.args.asker.now) c.args.targets.now)
+          ∙ AllZip-long (InLanes (g.S.Answering.answers c.args.answering.now) c.args.targets.now)
           (asked found.0.tree) c.in_ok-answers.answers.items found.1,
     )
 
@@ -19,6 +19,6 @@ pub returns : goal.returns
 returns g c =
     let value = c.in_ok-value.ensures.value in
     on_ok_weaker c.push_lanes.result (lanes-told c.args.targets.now
-    (g.S.Answering.answers c.args.asker.now) g.V.From.from_gives c.in_ok-answers.answers.items
+    (g.S.Answering.answers c.args.answering.now) g.V.From.from_gives c.in_ok-answers.answers.items
     c.as_slice.result.now c.in_ok-value.value _ _ c.requires c.as_slice.ensures.value
     c.in_ok-answers.ensures (value.0, value.2)) c.push_lanes.ensures

@@ -9,7 +9,7 @@ loop-left-init g c = (
   [],
   refl,
   AddsEach-none (λ (target : g.row.T.Denot). TellsValue g.V.From.from_gives c.args.condition.now
-      (g.S.Answering.answers c.args.asker.now target)) c.args.values.now.items,
+      (g.S.Answering.answers c.args.answering.now target)) c.args.values.now.items,
 )
 
 pub loop-left-preserved : goal.loop-left-preserved

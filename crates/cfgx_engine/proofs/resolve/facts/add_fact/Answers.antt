@@ -10,7 +10,7 @@ pub returns-in-Some-clause-named : goal.returns-in-Some-clause-named
 returns-in-Some-clause-named g c =
     on_ok_weaker c.add_text.result (λ adds. (
       c.requires.0,
-      AreNames-added c.args.on_unaskable
+      AreNames-added c.args.unaskable
           c.in-Some.text.now _ _ c.requires.1 adds,
     )) c.add_text.ensures.ok
 
@@ -19,8 +19,8 @@ returns-in-Some-clause-ok g c =
     let fact = c.args.fact.now in
     let marked = strip_prefix_char 63 fact (Some c.in-Some.text) c.in-Some.ensures.cases
     (omega arith) in
-    on_ok_weaker c.add_text.result (λ adds. AddsFact-unknown c.args.on_unaskable fact
-    c.in-Some.text.now _ _ (rw marked refl) (Pushes-added c.args.on_unaskable c.in-Some.text.now
+    on_ok_weaker c.add_text.result (λ adds. AddsFact-unknown c.args.unaskable fact
+    c.in-Some.text.now _ _ (rw marked refl) (Pushes-added c.args.unaskable c.in-Some.text.now
     _ _ c.requires.1 adds)) c.add_text.ensures.ok
 
 pub returns-in-Some-clause-err : goal.returns-in-Some-clause-err
@@ -29,13 +29,13 @@ returns-in-Some-clause-err g c =
     let marked = strip_prefix_char 63 fact (Some c.in-Some.text) c.in-Some.ensures.cases
     (omega arith) in
     IfErr-weaker c.add_text.result _ _ (λ failed fails. Fails-refused {A = g.row.A.Denot}
-    c.args.on_unaskable fact c.in-Some.text.now failed (rw marked refl) fails)
+    c.args.unaskable fact c.in-Some.text.now failed (rw marked refl) fails)
     c.add_text.ensures.err
 
 pub returns-in-None-clause-named : goal.returns-in-None-clause-named
 returns-in-None-clause-named g c =
     on_ok_weaker c.add_text-in-None.result (λ adds. (
-      AreNames-added c.args.on_unaskable
+      AreNames-added c.args.unaskable
           c.args.fact.now _ _ c.requires.0 adds,
       c.requires.1,
     )) c.add_text-in-None.ensures.ok
@@ -45,8 +45,8 @@ returns-in-None-clause-ok g c =
     let fact = c.args.fact.now in
     let unmarked = unknown_text-unmarked fact
     (strip_prefix_char 63 fact None c.in-None.ensures.cases (omega arith)) in
-    on_ok_weaker c.add_text-in-None.result (λ adds. AddsFact-true c.args.on_unaskable fact _ _
-    unmarked (Pushes-added c.args.on_unaskable fact _ _ c.requires.0 adds))
+    on_ok_weaker c.add_text-in-None.result (λ adds. AddsFact-true c.args.unaskable fact _ _
+    unmarked (Pushes-added c.args.unaskable fact _ _ c.requires.0 adds))
     c.add_text-in-None.ensures.ok
 
 pub returns-in-None-clause-err : goal.returns-in-None-clause-err
@@ -55,4 +55,4 @@ returns-in-None-clause-err g c =
     let unmarked = unknown_text-unmarked fact
     (strip_prefix_char 63 fact None c.in-None.ensures.cases (omega arith)) in
     IfErr-weaker c.add_text-in-None.result _ _ (λ failed fails. Fails-refused {A = g.row.A.Denot}
-    c.args.on_unaskable fact fact failed (rw unmarked refl) fails) c.add_text-in-None.ensures.err
+    c.args.unaskable fact fact failed (rw unmarked refl) fails) c.add_text-in-None.ensures.err

@@ -7,7 +7,7 @@ returns-then-branch-clause-ok g c =
     let failed = rw c.in-Err-Parse.field-0-is at c.in-Err-Parse.ensures in (
       [],
       inr (
-        rw c.in-PassOver.is (c.in_ok-is_unaskable-in-PassOver.ensures.0 c.if-branch.true),
+        rw c.in-PassedOver.is (c.in_ok-is_unaskable-in-PassedOver.ensures.0 c.if-branch.true),
         NamesNothing-fault _ failed.0 failed.2,
         refl,
       ),
@@ -18,6 +18,6 @@ pub returns-else-branch-clause-err : goal.returns-else-branch-clause-err
 returns-else-branch-clause-err g c =
     let failed = rw c.in-Err-Parse.field-0-is at c.in-Err-Parse.ensures in (
       (failed.0, failed.2, failed.1),
-      λ passes. true_and_false _ (c.in_ok-is_unaskable-in-PassOver.ensures.1
-          (rw c.in-PassOver.is at passes)) c.if-branch.false,
+      λ passes. true_and_false _ (c.in_ok-is_unaskable-in-PassedOver.ensures.1
+          (rw c.in-PassedOver.is at passes)) c.if-branch.false,
     )

@@ -8,20 +8,20 @@ use Rattle.cfgx_engine.proofs.FactLemmas.{ReadsFacts-fails}
 use Rattle.cfgx_engine.proofs.resolve.facts.Facts.read.Goals as goal
 
 pub loop-index-init : goal.loop-index-init
-loop-index-init g c = rw (c.new-of_true.ensures, c.new-of_unknown.ensures)
-    ((All-nil IsName, All-nil IsName), AreFacts-none (accepts c.args.on_unaskable))
+loop-index-init g c = rw (c.new-true_names.ensures, c.new-unknown_names.ensures)
+    ((All-nil IsName, All-nil IsName), AreFacts-none (accepts c.args.unaskable))
 
 -- each fact before the faulty one is accepted
 pub returns-in-Err : goal.returns-in-Err
 returns-in-Err g c =
-    rw c.at.ensures (ReadsFacts-fails (accepts c.args.on_unaskable) c.args.facts.now
+    rw c.at.ensures (ReadsFacts-fails (accepts c.args.unaskable) c.args.facts.now
     c.loop-index.index _ c.loop-index-test.true {A = g.row.A.Denot} c.in-Err.failure
     c.loop-index.invariant.1.each c.in-Err.ensures.err)
 
 pub loop-index-preserved : goal.loop-index-preserved
 loop-index-preserved g c = (
   c.in_default.ensures.named,
-  AreFacts-more (accepts c.args.on_unaskable) c.args.facts.now c.loop-index.index _
+  AreFacts-more (accepts c.args.unaskable) c.args.facts.now c.loop-index.index _
       c.loop-index-test.true _ _ c.loop-index.invariant.1 c.in_default.ensures.ok,
 )
 
@@ -37,5 +37,5 @@ pub returns : goal.returns
 returns g c =
     let named = c.loop-index.invariant.0 in
     rw (← take_all _ _ c.loop-index-test.false)
-    (AreFacts-sorted (accepts c.args.on_unaskable) _ _ _ _ _ named.0 named.1
+    (AreFacts-sorted (accepts c.args.unaskable) _ _ _ _ _ named.0 named.1
     c.sort.ensures.same c.sort-2.ensures.same c.loop-index.invariant.1)

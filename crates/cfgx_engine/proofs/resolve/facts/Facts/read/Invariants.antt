@@ -6,6 +6,6 @@ use Rattle.cfgx_engine.proofs.resolve.facts.Facts.read.Given as goal
 -- the facts that were read so far
 abbrev pub invariant-loop-index : goal.invariant-loop-index
 invariant-loop-index g l =
-    (AreNames l.of_true × AreNames l.of_unknown)
-    × AreFacts (accepts l.on_unaskable) (texts (take l.index l.facts))
-    (facts_in l.of_true l.of_unknown)
+    (AreNames l.true_names × AreNames l.unknown_names)
+    × AreFacts (accepts l.unaskable) (texts (take l.index l.facts))
+    (facts_in l.true_names l.unknown_names)
