@@ -1,4 +1,4 @@
-//! The engine of the program: its commands, its streams, and the one call that runs it.
+// The engine of the program: its commands, its streams, and the one call that runs it.
 ghost use Rattle.std.specs.Prelude.{◌≡◌, ◌≢◌, ◌+◌, ◌<◌, ◌≤◌, ◌⊎◌};
 ghost use Rattle.std.specs.Io.KnownBytes.{Appends};
 ghost use Rattle.std.specs.Cow.{cow_slice_items};
@@ -76,7 +76,7 @@ pub fn run<A: SmallAllocator, R: Source, W: Sink>(
     }
 }
 
-// Writes the output and returns its status. If a call of the sink failed, returns `REFUSED`.
+/// Writes the output and returns its status, or `REFUSED` if a call of the sink failed.
 fn write_output<A: Allocator, W: Sink>(sink: &mut W, output: &Output<A>) -> u8
     requires failures { W.failures sink.old < u64.MAX }
     requires status { output.now.status < 3 }

@@ -1,4 +1,4 @@
-//! An input that is read to its end, up to a limit.
+// An input that is read to its end, up to a limit.
 ghost use Rattle.std.specs.Prelude.{◌≡◌, ◌+◌, ◌<◌, ◌≤◌, length, take, is_some};
 ghost use Rattle.std.specs.Prelude.{IfSome, IfNone, IsTrue, if◌then◌else◌, ◌↔◌};
 ghost use Rattle.std.specs.Cmp.Rules.{comparing};
@@ -102,8 +102,8 @@ fn read_once<R: Source>(source: &mut R, bytes: &mut [u8], filled: usize) -> Opti
 ///
 /// # Errors
 ///
-/// - `Memory`: `alloc` refused memory.
-/// - `Device`: a call of the source failed, and none was made after it.
+/// `Stop::Memory`: `alloc` refused memory. `Stop::Device`: a call of the source failed, and none was
+/// made after it.
 pub fn read_input<A: Allocator, R: Source>(alloc: A, source: &mut R) -> Result<Input<A>, Stop>
     requires { R.failures source.old < u64.MAX }
     ensures count { R.failures source.new ≡ R.failures source.old + stop_failures result }

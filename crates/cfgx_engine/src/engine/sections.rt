@@ -22,7 +22,7 @@ use cfg_expr::memory::SmallAllocator;
 use cfg_expr::targets::TargetInfo;
 use std::alloc::{AllocError, Allocator};
 
-/// The error of a line. No output of the lines before it is kept.
+/// Why a line has no output. No output of the lines before it is kept.
 #[derive(Drop)]
 enum LineError<A: Allocator> {
     /// The line is faulty, and this is the message

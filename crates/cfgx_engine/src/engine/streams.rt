@@ -1,4 +1,4 @@
-//! Streams whose failed calls are counted, and the one loop that writes.
+// Streams whose failed calls are counted, and the one loop that writes.
 
 ghost use Rattle.std.specs.Prelude.{◌≡◌, ℕ, ◌+◌, ◌<◌, List, Option, length, None};
 ghost use Rattle.std.specs.Prelude.{IfSome, IfNone, is_some, if◌then◌else◌};
@@ -178,7 +178,7 @@ pub fn write_whole<W: Sink>(sink: &mut W, bytes: &[u8]) -> bool
     write_in_turns(sink, bytes) && sink.flush().is_ok()
 }
 
-// Writes `bytes` until all are written or a call fails. Returns whether no call failed.
+/// Writes `bytes` until all are written or a call fails. Returns whether no call failed.
 fn write_in_turns<W: Sink>(sink: &mut W, bytes: &[u8]) -> bool
     requires { W.failures sink.old < u64.MAX }
     ensures count { W.failures sink.new ≡ W.failures sink.old + (if result then 0 else 1) }
@@ -195,7 +195,7 @@ fn write_in_turns<W: Sink>(sink: &mut W, bytes: &[u8]) -> bool
     true
 }
 
-// Calls `write` once. Returns the bytes that are left to write, or `None` if the call failed.
+/// Calls `write` once. Returns the bytes that are left to write, or `None` if the call failed.
 fn write_once<'a, W: Sink>(sink: &mut W, bytes: &'a [u8]) -> Option<&'a [u8]>
     requires room { W.failures sink.old < u64.MAX }
     requires some { 0 < length bytes.now }

@@ -1,4 +1,4 @@
-//! Facts of a target, and what they answer to predicates.
+// Facts of a target, and what they answer to predicates.
 ghost use Rattle.std.specs.Prelude.{◌≡◌, ◌↔◌, Err, IfErr, IsTrue, OnOk, false};
 ghost use Rattle.std.specs.Cmp.Rules.{comparing};
 ghost use Rattle.std.proofs.Common.{rules};
@@ -50,18 +50,18 @@ impl Eq for Otherwise {
     ghost laws = { Prim.search (comparing, rules) };
 }
 
-/// The error of a call that reads facts.
+/// Why facts were not read.
 #[derive(Drop)]
 #[derive_where(Debug)]
 pub enum FactsError<A: Allocator = Global> {
-    /// A fact is faulty, and none before it is.
+    /// A fact is faulty, and none before it is
     Faulty {
         /// The index of the fact
         index: usize,
         /// What is wrong with its text, without the `?` that it may begin with
         error: ParseError<A>,
     },
-    /// The call ran out of memory. This does not say whether a fact is faulty.
+    /// The allocator refused memory. This does not say whether a fact is faulty
     Memory(AllocError),
 }
 
