@@ -11,18 +11,17 @@ use cfg_expr::error::Failure;
 use cfg_expr::expr::ConditionReader;
 use cfg_expr::memory::SmallAllocator;
 
-/// Evaluates `text` with the flags in `words`. The text is parsed before the flags, so the error is
-/// that of the text if both are faulty.
-pub(super) fn eval_with_flags<'a, A: SmallAllocator>(
+/// Evaluates `text` with `flags`. The text is parsed before the flags, so its fault comes first.
+pub(super) fn eval_with_flags<A: SmallAllocator>(
     alloc: A,
-    text: &'a str,
-    words: &[&str],
-    reader: &mut ConditionReader<'a, A>,
+    text: &str,
+    flags: &[&str],
 ) -> Result<Option<bool>, Failure<A>>
-    ensures { FitsResult (HasValue text.now (texts words.now)) result }
+    ensures { FitsResult (HasValue text.now (texts flags.now)) result }
 {
+    let mut reader = ConditionReader::new(alloc);
     let condition = reader.read(text)?;
-    let flags = Facts::from_flags(alloc, words)?;
-    let mut answer = |predicate: &Predicate<'_>| flags.answer(predicate, Otherwise::False);
+    let facts = Facts::from_flags(alloc, flags)?;
+    let mut answer = |predicate: &Predicate<'_>| facts.answer(predicate, Otherwise::False);
     Ok(condition.eval(alloc, &mut answer)?)
 }

@@ -18,7 +18,6 @@ use super::streams::Source;
 use crate::resolve::eval_on_target;
 use cfg_expr::Expression;
 use cfg_expr::error::Failure;
-use cfg_expr::expr::ConditionReader;
 use cfg_expr::memory::SmallAllocator;
 use cfg_expr::targets::TargetInfo;
 use cfg_expr::targets::builtins::builtin;
@@ -123,8 +122,7 @@ fn eval_output<A: SmallAllocator>(
     ensures { IfOk result (λ output.
         Prints (Request.eval text.now (texts flags.now)) [] (output_view output)) }
 {
-    let mut reader = ConditionReader::new(alloc);
-    result_output(alloc, eval_with_flags(alloc, text, flags, &mut reader))
+    result_output(alloc, eval_with_flags(alloc, text, flags))
 }
 
 /// Returns the output of `target`: the value of `text` on the built-in target with `triple`, or its

@@ -27,39 +27,39 @@ Fails-flags flags (facts_error.Memory error) first = tt
 pub returns-in_err-condition : goal.returns-in_err-condition
 returns-in_err-condition g c =
     let p = err_from_is_err_and c.from_residual.result c.from_residual.ensures.1 in
-    let Valued = HasValue c.args.text.now (texts c.args.words.now) in
+    let Valued = HasValue c.args.text.now (texts c.args.flags.now) in
     rw (p.1, p.2) (IfSome_then _ {Q = λ fault. Valued (Err fault)}
     (Fails-parse {A = g.row.A.Denot} c.args.text.now _ c.in_err-condition.ensures)
     (λ fault reads. (Err fault, first_fails ParsesAs _ _ fault reads, refl)))
 
-pub returns-in_err-flags : goal.returns-in_err-flags
-returns-in_err-flags g c =
-    let p = err_from_is_err_and c.from_residual-in_err-flags.result
-    c.from_residual-in_err-flags.ensures.1 in
+pub returns-in_err-facts : goal.returns-in_err-facts
+returns-in_err-facts g c =
+    let p = err_from_is_err_and c.from_residual-in_err-facts.result
+    c.from_residual-in_err-facts.ensures.1 in
     let one = c.in_ok-condition.ensures.2 in
-    let words = texts c.args.words.now in
-    let Valued = HasValue c.args.text.now words in
+    let flags = texts c.args.flags.now in
+    let Valued = HasValue c.args.text.now flags in
     rw (p.1, p.2) (IfSome_then _ {Q = λ fault. Valued (Err fault)}
-    (Fails-flags {A = g.row.A.Denot} words c.in_err-flags.field-0.0 c.in_err-flags.ensures)
+    (Fails-flags {A = g.row.A.Denot} flags c.in_err-facts.field-0.0 c.in_err-facts.ensures)
     (λ fault gives. (Err fault, later_fails ParsesAs _ one.tree _ fault one.reads gives, refl)))
 
 pub returns : goal.returns
 returns g c =
     let evaluates = rw c.in_ok-condition.ensures.0 at c.in_ok-eval.ensures.value in
-    let are = c.in_ok-flags.ensures in
-    let words = texts c.args.words.now in
-    let trees = trees_of words are.each in
-    let answered = Calls-AllZip _ (λ closure. closure.0.now ≡ c.in_ok-flags.flags)
-    (IsAnswer (texts_of words) otherwise.False)
+    let are = c.in_ok-facts.ensures in
+    let flags = texts c.args.flags.now in
+    let trees = trees_of flags are.each in
+    let answered = Calls-AllZip _ (λ closure. closure.0.now ≡ c.in_ok-facts.facts)
+    (IsAnswer (texts_of flags) otherwise.False)
     (λ before question given after holds asks.
     let met = asks.called.met in
     let answers : IsAnswer before.0.now otherwise.False (question_of asks.shown.now) given =
     search rules in (
-      IsAnswer-alike c.in_ok-flags.flags (texts_of words) otherwise.False question given are.alike
+      IsAnswer-alike c.in_ok-facts.facts (texts_of flags) otherwise.False question given are.alike
           (rw (← holds, ← asks.shows) answers),
       search rules,
     ))
-    _ _ _ _ (refl {a = c.in_ok-flags.flags}) evaluates.calls in (
+    _ _ _ _ (refl {a = c.in_ok-facts.facts}) evaluates.calls in (
       Ok (evaluates.one.tree ∷ trees.0),
       (evaluates.one.reads, trees.1),
       (evaluates.answers, answered, ap Ok evaluates.value_is),
