@@ -15,6 +15,9 @@ use Rattle.cfgx_engine.specs.declared.resolve.names.{Named.Named, Parts.Parts}
 use Rattle.cfgx_engine.specs.Facts.{FactTexts}
 use Rattle.cfgx_fields.specs.declared.text_key.TextKey.TheVariants as key
 use Rattle.cfgx_parser.specs.Kinds.{kind_number, kind_of}
+use Rattle.cfgx_parser.specs.nodes.Located.{inner_target, target_text}
+use Rattle.cfgx_parser.specs.declared.nodes.InnerTarget.{InnerTarget}
+use Rattle.cfgx_parser.specs.declared.nodes.InnerTarget.TheVariants as target
 
 -- the numbers of the kind and of the value, the key, and the value as a text
 abbrev pub Code : Type 0
@@ -27,11 +30,21 @@ code_with kind number key value = (kind ∷ number ∷ []) ∷ key ∷ value ∷
 abbrev pub code : Parts → Code
 code parts = code_with parts.kind parts.number parts.key.now parts.value.now
 
+-- the number that is asked of a target, or the rank of a byte order; else 0
+abbrev pub target_number : InnerTarget → ℕ
+target_number (target.Endian order) = endian_rank order
+target_number (target.HasAtomic (IntegerSize bits)) = bits
+target_number (target.PointerWidth bits) = bits
+target_number _ = 0
+
+-- the text that is asked of a target; that of the width of a pointer is `ptr`
+abbrev pub text_with : List ℕ → InnerTarget → List ℕ
+text_with text (target.HasAtomic Pointer) = codes "ptr"
+text_with text _ = text
+
 -- the value, if it is a number or a byte order, else 0
 abbrev pub number_of : Question → ℕ
-number_of (Question.target (TargetQuestion.endian order)) = endian_rank order
-number_of (Question.target (TargetQuestion.has_atomic (IntegerSize bits))) = bits
-number_of (Question.target (TargetQuestion.pointer_width width)) = width
+number_of (Question.target question) = target_number (inner_target question)
 number_of _ = 0
 
 -- the key, if the kind does not say it, else an empty text
@@ -40,18 +53,12 @@ key_of (Question.flag key) = key
 key_of (Question.key_value key value) = key
 key_of _ = []
 
--- the value of a question on the target, if it is a text, else an empty one
-abbrev pub target_text : TargetQuestion → List ℕ
-target_text (TargetQuestion.text which text) = text
-target_text (TargetQuestion.has_atomic Pointer) = codes "ptr"
-target_text _ = []
-
 -- the value, if it is a text, else an empty one
 abbrev pub text_of : Question → List ℕ
 text_of (Question.key_value key value) = value
 text_of (Question.feature text) = text
 text_of (Question.target_feature text) = text
-text_of (Question.target question) = target_text question
+text_of (Question.target question) = text_with (target_text question) (inner_target question)
 text_of _ = []
 
 -- the code of a question, which no other question has

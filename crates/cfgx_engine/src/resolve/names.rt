@@ -4,11 +4,13 @@ ghost use Rattle.std.specs.Prelude.{IsTrue, OnOk};
 ghost use Rattle.std.specs.List.{Contains};
 ghost use Rattle.std.specs.List.Sorted.{IsPermutation, IsSorted};
 ghost use Rattle.cfg_expr.specs.Predicate.{question_of, target_of};
-ghost use Rattle.cfgx_engine.specs.internal.Names.{key_of, number_of, target_text, text_of};
+ghost use Rattle.cfgx_grammar.specs.Question.{Question};
+ghost use Rattle.cfgx_engine.specs.internal.Names.{key_of, number_of, text_of};
 
 use cfg_expr::Predicate;
 use cfg_expr::expr::{Predicates, TargetPredicate};
 use cfg_expr::targets::{Endian, HasAtomic};
+use cfgx_parser::nodes::InnerTarget;
 use std::alloc::{AllocError, Allocator};
 use std::cmp::Ordering;
 use std::marker::Model;
@@ -33,11 +35,12 @@ impl<'a> Parts<'a> {
     fn of(predicate: &'a Predicate<'_>) -> Parts<'a>
         ensures { code result ≡ code_of (question_of predicate.now) }
     {
+        let (number, text) = value_of(predicate);
         Parts {
             kind: predicate.kind().number(),
-            number: number_of(predicate),
+            number,
             key: key_of(predicate).as_bytes(),
-            value: text_of(predicate).as_bytes(),
+            value: text.as_bytes(),
         }
     }
 
@@ -56,18 +59,6 @@ impl<'a> Parts<'a> {
     }
 }
 
-/// Returns the value of a predicate, if it is a number or a byte order, else 0.
-fn number_of(predicate: &Predicate<'_>) -> u16
-    ensures { result ≡ number_of (question_of predicate.now) }
-{
-    match predicate {
-        Predicate::Target(TargetPredicate::Endian(Endian::little)) => 1,
-        Predicate::Target(TargetPredicate::HasAtomic(HasAtomic::IntegerSize(bits))) => *bits,
-        Predicate::Target(TargetPredicate::PointerWidth(width)) => u16::from(*width),
-        _ => 0,
-    }
-}
-
 /// Returns the key of a predicate, if the kind does not say it, else an empty text.
 fn key_of<'a>(predicate: &'a Predicate<'_>) -> &'a str
     ensures { result.now ≡ key_of (question_of predicate.now) }
@@ -78,32 +69,34 @@ fn key_of<'a>(predicate: &'a Predicate<'_>) -> &'a str
     }
 }
 
-/// Returns the value of a predicate, if it is a text, else an empty one.
-fn text_of<'a>(predicate: &'a Predicate<'_>) -> &'a str
-    ensures { result.now ≡ text_of (question_of predicate.now) }
+/// Returns the value of a predicate as a number and a text. The number is 0 if the value is a text,
+/// and the text is empty if it is a number.
+fn value_of<'a>(predicate: &'a Predicate<'_>) -> (u16, &'a str)
+    ensures number { result.0 ≡ number_of (question_of predicate.now) }
+    ensures text { result.1.now ≡ text_of (question_of predicate.now) }
 {
     match predicate {
-        Predicate::KeyValue { val, .. } => *val,
-        Predicate::Feature(name) | Predicate::TargetFeature(name) => *name,
-        Predicate::Target(target) => target_text(target),
-        _ => "",
+        Predicate::Target(target) => target_value(target),
+        Predicate::Feature(name) | Predicate::TargetFeature(name) => (0, *name),
+        Predicate::KeyValue { val, .. } => (0, *val),
+        Predicate::Test | Predicate::DebugAssertions | Predicate::ProcMacro | Predicate::Flag(_) =>
+            (0, ""),
     }
 }
 
-/// Returns the value of a predicate on the target, if it is a text or `ptr`, else an empty text.
-fn target_text<'a>(target: &'a TargetPredicate<'_>) -> &'a str
-    ensures { result.now ≡ target_text (target_of target.now) }
+/// Returns the value of a predicate on the target as a number and a text. The text of the width of
+/// a pointer is `ptr`.
+fn target_value<'a>(target: &'a TargetPredicate<'_>) -> (u16, &'a str)
+    ensures number { result.0 ≡ number_of (Question.target (target_of target.now)) }
+    ensures text { result.1.now ≡ text_of (Question.target (target_of target.now)) }
 {
-    match target {
-        TargetPredicate::Abi(name) => name.as_str(),
-        TargetPredicate::Arch(name) => name.as_str(),
-        TargetPredicate::Env(name) => name.as_str(),
-        TargetPredicate::Family(name) => name.as_str(),
-        TargetPredicate::HasAtomic(HasAtomic::Pointer) => "ptr",
-        TargetPredicate::Os(name) => name.as_str(),
-        TargetPredicate::Panic(name) => name.as_str(),
-        TargetPredicate::Vendor(name) => name.as_str(),
-        _ => "",
+    let (asked, text) = target.parts();
+    match asked {
+        InnerTarget::Text(_) | InnerTarget::Endian(Endian::big) => (0, text),
+        InnerTarget::Endian(Endian::little) => (1, text),
+        InnerTarget::HasAtomic(HasAtomic::IntegerSize(bits)) => (bits, text),
+        InnerTarget::HasAtomic(HasAtomic::Pointer) => (0, "ptr"),
+        InnerTarget::PointerWidth(bits) => (u16::from(bits), text),
     }
 }
 
