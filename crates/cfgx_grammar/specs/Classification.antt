@@ -12,8 +12,8 @@ use Rattle.cfgx_grammar.specs.Question.{Leaf, Question, TargetQuestion}
 
 -- which part of a predicate is at fault
 pub data FaultyPart : Type 0 where
-  key : FaultyPart
-  value : FaultyPart
+  in_key : FaultyPart
+  in_value : FaultyPart
 
 -- what a key and its value say: a predicate or a literal; or why they are neither, and which part
 -- is at fault
@@ -27,20 +27,20 @@ predicate question = Class.is (Leaf.predicate question)
 -- a key that takes no value
 abbrev pub bare : Leaf → Option (List ℕ) → Class
 bare leaf None = Class.is leaf
-bare leaf (Some value) = Class.faulty (unexpected []) FaultyPart.value
+bare leaf (Some value) = Class.faulty (unexpected []) FaultyPart.in_value
 
 -- a key that needs a value; without one, `missing` was expected
 abbrev pub valued : (List ℕ → Class) → List ℕ → Option (List ℕ) → Class
-valued with missing None = Class.faulty (unexpected (missing ∷ [])) FaultyPart.key
+valued with missing None = Class.faulty (unexpected (missing ∷ [])) FaultyPart.in_key
 valued with missing (Some value) = with value
 
 -- a value that was read, or a fault of the value
 abbrev pub if_read : {X : Type 0} → (X → TargetQuestion) → Cause → Option X → Class
-if_read ask cause None = Class.faulty cause FaultyPart.value
+if_read ask cause None = Class.faulty cause FaultyPart.in_value
 if_read ask cause (Some x) = predicate (Question.target (ask x))
 
 abbrev pub target_feature : List ℕ → Class
-target_feature [] = Class.faulty (unexpected (codes "<feature>" ∷ [])) FaultyPart.value
+target_feature [] = Class.faulty (unexpected (codes "<feature>" ∷ [])) FaultyPart.in_value
 target_feature (byte ∷ bytes) = predicate (Question.target_feature (byte ∷ bytes))
 
 -- the text that the target has for the key is asked for
@@ -80,7 +80,7 @@ target_rules = rule (codes "abi") (asks_for key.Abi)
 
 abbrev pub target_class : List ℕ → List ℕ → Class
 target_class name value = by_name target_rules name value
-    (Class.faulty (unexpected target_keys) FaultyPart.key)
+    (Class.faulty (unexpected target_keys) FaultyPart.in_key)
 
 abbrev pub family : List ℕ → Leaf
 family name = Leaf.predicate (Question.target (TargetQuestion.text key.Family name))

@@ -26,8 +26,8 @@ with_value value p = record p { value = Some value }
 
 -- the part of a predicate that is at fault; `class` names the value only if there is one
 abbrev pub part_of : KeyAndValue → FaultyPart → LocatedText
-part_of p FaultyPart.key = p.key
-part_of p FaultyPart.value = unwrap_or p.value p.key
+part_of p FaultyPart.in_key = p.key
+part_of p FaultyPart.in_value = unwrap_or p.value p.key
 
 -- what the key and the value say
 abbrev pub class_of : KeyAndValue → Class

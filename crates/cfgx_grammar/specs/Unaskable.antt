@@ -16,4 +16,4 @@ pub record IsKeyAndValue (text : List ℕ) : Type 0 where
 -- The key begins with `target_` and is not known, or it lacks the value that it needs.
 abbrev pub IsUnaskable : List ℕ → Type 0
 IsUnaskable text = (leaf : IsKeyAndValue text) × (cause : Cause)
-    × (class leaf.key leaf.value ≡ Class.faulty cause FaultyPart.key)
+    × (class leaf.key leaf.value ≡ Class.faulty cause FaultyPart.in_key)

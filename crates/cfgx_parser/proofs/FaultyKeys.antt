@@ -15,7 +15,7 @@ use Rattle.cfgx_parser.specs.Unaskable.{IsFaultyKey}
 -- a class that has no fault of the value
 abbrev SparesValue : Class → Type 0
 SparesValue (Class.is leaf) = Unit {0}
-SparesValue (Class.faulty cause part) = part ≡ FaultyPart.key
+SparesValue (Class.faulty cause part) = part ≡ FaultyPart.in_key
 
 spares_by_name : {V : Type 0} (name : List ℕ) (value : V) (otherwise : Class)
     (rules : List (Rule V)) → AllByRecursion (λ rule. SparesValue (rule.read value)) rules
@@ -40,17 +40,17 @@ placed key value = record {
 fault_at_key : (found : Class) (key value : List ℕ) (fault : Fault)
     → located_class (placed key (Some value)) found ≡ Err fault
     → IsTrue (nat_eq fault.start 0)
-    ↔ ((cause : Cause) × (found ≡ Class.faulty cause FaultyPart.key))
+    ↔ ((cause : Cause) × (found ≡ Class.faulty cause FaultyPart.in_key))
 fault_at_key (Class.is leaf) key value fault is = absurd (cc is)
-fault_at_key (Class.faulty cause FaultyPart.key) key value fault is =
+fault_at_key (Class.faulty cause FaultyPart.in_key) key value fault is =
     (λ _. (cause, refl), λ _. grind (arith, is))
-fault_at_key (Class.faulty cause FaultyPart.value) key value fault is =
+fault_at_key (Class.faulty cause FaultyPart.in_value) key value fault is =
     (λ zero. absurd (grind (arith, is, zero)), λ (_, wrong). absurd (cc wrong))
 
 -- without a value every fault is that of the key
 fault_of_key : (found : Class) (key : List ℕ) (fault : Fault) → SparesValue found
     → located_class (placed key None) found ≡ Err fault
-    → (cause : Cause) × (found ≡ Class.faulty cause FaultyPart.key)
+    → (cause : Cause) × (found ≡ Class.faulty cause FaultyPart.in_key)
 fault_of_key (Class.is leaf) key fault spares is = absurd (cc is)
 fault_of_key (Class.faulty cause part) key fault spares is =
     (cause, ap (Class.faulty cause) spares)

@@ -30,7 +30,7 @@ YieldsFew lexer (Err (failure.Memory error)) = Unit {0}
 
 -- the key is at fault
 abbrev pub IsFaultyKey : List ℕ → Option (List ℕ) → Type 0
-IsFaultyKey key value = (cause : Cause) × (class key value ≡ Class.faulty cause FaultyPart.key)
+IsFaultyKey key value = (cause : Cause) × (class key value ≡ Class.faulty cause FaultyPart.in_key)
 
 -- the tokens are a key that is at fault, or such a key, `=` and a value
 abbrev pub HasFaultyKey : List spelled.Token → Type 0
