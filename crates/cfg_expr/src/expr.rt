@@ -45,7 +45,7 @@ pub use steps::{Step, StepsError, eval_steps, steps_of};
 pub struct Expression<A: Allocator = Global> {
     original: String<A>,
     /// In source order
-    nodes: SmallVec<ExprNode, 1, A>,
+    nodes: SmallVec<ExprNode, 5, A>,
     /// The places of the predicates among the nodes, in the order in which they are asked
     places: SmallVec<usize, 4, A>,
 }

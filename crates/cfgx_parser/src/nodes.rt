@@ -170,7 +170,7 @@ fn capacity_for(len: usize) -> usize {
 #[derive(Drop)]
 pub(crate) struct NodeWriter<A: SmallAllocator> {
     /// The nodes, in source order
-    pub(crate) nodes: SmallVec<ExprNode, 1, A>,
+    pub(crate) nodes: SmallVec<ExprNode, 5, A>,
     /// The places of the predicates whose list is open, those of inner lists last
     pub(crate) waiting: SmallVec<usize, 4, A>,
     /// The places of the other predicates, in the order in which they are asked

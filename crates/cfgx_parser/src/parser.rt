@@ -538,7 +538,7 @@ impl<'a, A: SmallAllocator> Parser<'a, A> {
     }
 
     /// Returns the nodes that were written, and the places of the predicates among them.
-    pub fn into_parts(self) -> (SmallVec<ExprNode, 1, A>, SmallVec<usize, 4, A>)
+    pub fn into_parts(self) -> (SmallVec<ExprNode, 5, A>, SmallVec<usize, 4, A>)
         ensures nodes { result.0 ≡ self.entry.writer.nodes }
         ensures places { result.1 ≡ self.entry.writer.places }
     {

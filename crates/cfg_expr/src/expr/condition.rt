@@ -22,6 +22,7 @@ use cfgx_parser::parser::Parser;
 use cfgx_syntax::lexer::Lexer;
 use cfgx_syntax::logic::Kleene64;
 use cfgx_syntax::logic::laws::are_disjoint;
+use smallvec::SmallVec;
 use std::alloc::{AllocError, Global};
 use std::fmt;
 use std::marker::Model;
@@ -131,7 +132,8 @@ impl<'a> Condition<'a> {
         ensures short { length self.now ≤ 32 → IsOk result }
     {
         let nodes = self.nodes();
-        let mut slots = evaluating::empty_slots(&alloc, nodes.len())?;
+        let mut slots = SmallVec::new(&alloc);
+        evaluating::push_empty_slots(&mut slots, nodes.len())?;
         let slots = slots.as_mut_slice();
         evaluating::put_each(self.places(), answers, slots);
         Ok(evaluating::eval_nodes(nodes, slots))

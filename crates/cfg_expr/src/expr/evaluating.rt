@@ -6,8 +6,8 @@
 //! overlap, since each node has one slot and pushes one entry. The nodes are in the order of the
 //! text. Predicates are asked in another order: for each function, first those below its member
 //! functions, and then those that are its own members.
-ghost use Rattle.std.specs.Prelude.{◌≡◌, ◌<◌, ◌≤◌, ◌+◌, ◌∷◌, ℕ, List, Some, IfOk, IsSome, OnErr};
-ghost use Rattle.std.specs.Prelude.{IsOk, length, map, set, get_or, take, drop};
+ghost use Rattle.std.specs.Prelude.{◌≡◌, ◌<◌, ◌≤◌, ◌+◌, [], ◌∷◌, ℕ, List, Some, IfOk, IsSome};
+ghost use Rattle.std.specs.Prelude.{IsOk, OnErr, OnOk, length, map, set, get_or, take, drop};
 ghost use Rattle.std.specs.Iterator.{AlwaysYields, IsFinite};
 ghost use Rattle.std.specs.List.{AllByRecursion};
 ghost use Rattle.cfgx_grammar.specs.Answer.{HasOneTree};
@@ -243,20 +243,22 @@ pub(super) fn eval_nodes<T: Logic>(nodes: &[ExprNode], slots: &mut [Slot<T>]) ->
     stack.pop()
 }
 
-/// Returns `count` empty slots. Up to 33 are inline and take no memory. A text has no more nodes
-/// than bytes, so this is enough for a text of 32 bytes.
-pub(super) fn empty_slots<T: Logic, A: Allocator>(
-    alloc: &A,
+/// Pushes `count` empty slots to `slots`, which is new. Up to 33 are inline and take no memory. A
+/// text has no more nodes than bytes, so this is enough for a text of 32 bytes.
+// A new vector that was returned in a `Result` would be copied out of it.
+pub(super) fn push_empty_slots<T: Logic, A: Allocator>(
+    slots: &mut SmallVec<Slot<T>, 33, &A>,
     count: usize,
-) -> Result<SmallVec<Slot<T>, 33, &A>, AllocError>
-    ensures slots { IfOk result (λ slots. slots.items ≡ no_answers count) }
+) -> Result<(), AllocError>
+    requires new { (slots.old.items ≡ []) × (slots.old.capacity ≡ 33) }
+    ensures slots { OnOk result (slots.new.items ≡ no_answers count) }
     ensures succeeds { count ≤ 33 → IsOk result }
 {
-    let mut slots = SmallVec::with_capacity(alloc, count)?;
+    slots.reserve_exact(count)?;
     for _place in 0..count {
         slots.push_reserved(Slot::Empty);
     }
-    Ok(slots)
+    Ok(())
 }
 
 /// Puts `answer` into the slot at `place`.
@@ -333,7 +335,8 @@ where
     ensures short { length condition.now ≤ 32 → IsOk result }
 {
     let nodes = condition.nodes();
-    let mut slots = empty_slots(&alloc, nodes.len())?;
+    let mut slots = SmallVec::new(&alloc);
+    push_empty_slots(&mut slots, nodes.len())?;
     let slots = slots.as_mut_slice();
     ask_each(condition.places(), condition.predicates(), slots, ep);
     Ok(eval_nodes(nodes, slots))

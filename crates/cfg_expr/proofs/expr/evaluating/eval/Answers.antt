@@ -10,7 +10,7 @@ use Rattle.cfg_expr.proofs.expr.evaluating.eval.Goals as goal
 pub ask_each-requires-clause-inside : goal.ask_each-requires-clause-inside
 ask_each-requires-clause-inside g c =
     text-inside _ c.nodes-nodes.ensures.nodes c.places.ensures
-    (c.as_mut_slice-slots.ensures.value ∙ c.in_ok-slots.ensures.slots)
+    (c.as_mut_slice-slots.ensures.value ∙ c.in_ok-push_empty_slots.ensures.slots)
 
 pub ask_each-requires-clause-many : goal.ask_each-requires-clause-many
 ask_each-requires-clause-many g c =
@@ -32,7 +32,7 @@ eval_nodes-requires g c =
     let (answers, calls, put) = c.ask_each.ensures in (
       _,
       text-holds _ c.nodes-nodes.ensures.nodes c.places.ensures
-          (c.as_mut_slice-slots.ensures.value ∙ c.in_ok-slots.ensures.slots)
+          (c.as_mut_slice-slots.ensures.value ∙ c.in_ok-push_empty_slots.ensures.slots)
           g.T.Logic.top asks.0 answers (Calls-length g.EP.FnMut calls ∙ ap length asks.1) put,
     )
 
@@ -46,12 +46,15 @@ returns-clause-value g c =
       calls = subst (λ questions. Calls g.EP.FnMut c.args.ep.now questions answers
           c.ask_each.new.ep) asks.1 calls;
       value_is = c.eval_nodes.ensures _ (text-holds _ c.nodes-nodes.ensures.nodes c.places.ensures
-          (c.as_mut_slice-slots.ensures.value ∙ c.in_ok-slots.ensures.slots)
+          (c.as_mut_slice-slots.ensures.value ∙ c.in_ok-push_empty_slots.ensures.slots)
           g.T.Logic.top asks.0 answers (Calls-length g.EP.FnMut calls ∙ ap length asks.1) put);
     }
 
-pub empty_slots-requires : goal.empty_slots-requires
-empty_slots-requires g c = room _ _ g.met.T.Logic.small
+pub push_empty_slots-requires : goal.push_empty_slots-requires
+push_empty_slots-requires g c = (
+  room _ _ g.met.T.Logic.small,
+  (c.new-slots.ensures.items, c.new-slots.ensures.capacity),
+)
 
 pub as_mut_slice-slots-requires : goal.as_mut_slice-slots-requires
 as_mut_slice-slots-requires g c = room _ _ g.met.T.Logic.small
