@@ -4,9 +4,10 @@
  *     calls CALL TIMES CONDITIONS FACTS
  *
  * CONDITIONS has a condition on each line. FACTS has a fact on each line, and an empty line behind
- * those of each target. `value`, `decide`, `compile` and `apply` take one short condition, `run`
- * evaluates each condition of the file with the facts of the first target as flags, and `audit`
- * evaluates all conditions on all targets. */
+ * those of each target. `compile-flag` compiles one flag; `value`, `decide`, `compile`,
+ * `predicates` and `apply` take one short condition. `run` evaluates each condition of the file
+ * with the facts of the first target as flags, and `audit` evaluates all conditions on all
+ * targets. */
 #include <cfgx.h>
 #include <stdio.h>
 #include <stdlib.h>
@@ -14,6 +15,7 @@
 
 #define CONDITION "all(unix, feature = \"x\")"
 #define LENGTH (sizeof CONDITION - 1)
+#define FLAG "unix"
 
 /* A list of texts, and how many of them each of its groups ends with. */
 struct list {
@@ -89,19 +91,27 @@ static void decide(size_t times) {
                     == CFGX_STATUS_DONE, "decide");
 }
 
-static size_t compile(size_t times, struct cfgx_step *steps) {
+static size_t compile(const char *text, size_t length, size_t times, struct cfgx_step *steps) {
     struct cfgx_predicate predicates[2];
     size_t step_count = 0;
     size_t predicate_count;
     while (times-- > 0)
-        require(cfgx_compile(CONDITION, LENGTH, steps, 3, &step_count, predicates, 2,
+        require(cfgx_compile(text, length, steps, 3, &step_count, predicates, 2,
                              &predicate_count) == CFGX_STATUS_DONE, "compile");
     return step_count;
 }
 
+static void predicates(size_t times) {
+    struct cfgx_predicate found[2];
+    size_t count;
+    while (times-- > 0)
+        require(cfgx_predicates(CONDITION, LENGTH, found, 2, &count) == CFGX_STATUS_DONE,
+                "predicates");
+}
+
 static void apply(size_t times) {
     struct cfgx_step steps[3];
-    size_t count = compile(1, steps);
+    size_t count = compile(CONDITION, LENGTH, 1, steps);
     uint8_t found;
     while (times-- > 0)
         require(cfgx_apply(steps, count, ANSWERS, 2, &found) == CFGX_STATUS_DONE, "apply");
@@ -158,7 +168,11 @@ int main(int count, char **words) {
     else if (strcmp(words[1], "decide") == 0)
         decide(times);
     else if (strcmp(words[1], "compile") == 0)
-        compile(times, steps);
+        compile(CONDITION, LENGTH, times, steps);
+    else if (strcmp(words[1], "compile-flag") == 0)
+        compile(FLAG, sizeof FLAG - 1, times, steps);
+    else if (strcmp(words[1], "predicates") == 0)
+        predicates(times);
     else if (strcmp(words[1], "apply") == 0)
         apply(times);
     else if (strcmp(words[1], "run") == 0)
