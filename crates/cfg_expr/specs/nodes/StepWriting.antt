@@ -44,7 +44,11 @@ with_leaf leaf w = ended w.begun (w.leaves ++ leaf ∷ []) w.steps
 -- a function begins, and ends if it has no members
 abbrev pub with_function : Step → ℕ → Written → Written
 with_function step members w =
-    let function = record { step = step; members_left = members; leaves = length w.leaves } in
+    let function : Open = record {
+      step = step;
+      members_left = members;
+      leaves = length w.leaves;
+    } in
     if nat_le members 0 then ended (function ∷ w.begun) w.leaves w.steps
     else record w { begun = function ∷ w.begun }
 
