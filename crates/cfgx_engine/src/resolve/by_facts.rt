@@ -14,7 +14,8 @@ ghost use Rattle.cfgx_engine.specs.internal.InLanes.{AddsEach, InLanes, TellsVal
 ghost use Rattle.cfgx_engine.specs.internal.Shows.{Fails};
 
 use super::auditing::{Answering, push_values};
-use super::facts::{Facts, Otherwise};
+use super::facts::{Facts, Otherwise, unnamed_answer};
+use super::names::Parts;
 use cfg_expr::Predicate;
 use cfg_expr::error::Failure;
 use cfg_expr::expr::ConditionReader;
@@ -53,10 +54,12 @@ fn answers_in_lanes<A: SmallAllocator>(
     ensures { InLanes (λ facts. IsAnswer facts otherwise) targets.now
         (question_of predicate.now) result }
 {
+    let asked = Parts::of(predicate);
+    let unnamed = unnamed_answer(predicate, otherwise);
     let mut answers = Kleene64::new(0, 0);
     let mut left = targets;
     while let Some((facts, before)) = left.split_last() {
-        answers = answers.push_front(facts.answer(predicate, otherwise));
+        answers = answers.push_front(facts.answer_to(&asked, unnamed));
         left = before;
     }
     answers

@@ -6,14 +6,16 @@ ghost use Rattle.cfgx_syntax.specs.Stripping.{strip};
 ghost use Rattle.cfg_expr.specs.Predicate.{question_of};
 ghost use Rattle.cfgx_engine.specs.Facts.{IsAnswer, IsFlag, IsRustcFact, ReadsFacts};
 ghost use Rattle.cfgx_engine.specs.Facts.{fact_text, otherwise_eq, unnamed_answer};
-ghost use Rattle.cfgx_engine.specs.internal.Names.{AreNames, facts_in};
+ghost use Rattle.cfgx_grammar.specs.Question.{Question};
+ghost use Rattle.cfgx_engine.specs.declared.resolve.facts.Otherwise.{Otherwise};
+ghost use Rattle.cfgx_engine.specs.internal.Names.{AreNames, code, code_of, facts_in};
 ghost use Rattle.cfgx_engine.specs.internal.ReadsFacts.{AddsFact, AddsText, accepts};
 ghost use Rattle.cfgx_engine.specs.internal.ReadsFacts.{error_at, passes_over};
 ghost use Rattle.cfgx_engine.specs.internal.Shows.{Fails};
 ghost use Rattle.cfgx_engine.specs.Readings.{ParsesAs};
 ghost use Rattle.cfgx_engine.specs.Request.{texts};
 
-use super::names::Names;
+use super::names::{Names, Parts};
 use cfg_expr::Predicate;
 use cfg_expr::error::{Failure, ParseError};
 use cfg_expr::expr::ConditionReader;
@@ -185,12 +187,22 @@ impl<A: SmallAllocator> Facts<A> {
     pub fn answer(&self, predicate: &Predicate<'_>, otherwise: Otherwise) -> Option<bool>
         ensures { IsAnswer self.now otherwise (question_of predicate.now) result }
     {
-        if self.true_names.has(predicate) {
+        self.answer_to(&Parts::of(predicate), unnamed_answer(predicate, otherwise))
+    }
+
+    /// Returns the answer of the facts to the predicate with the parts `asked`, which is `unnamed`
+    /// if no fact names it.
+    pub(super) fn answer_to(&self, asked: &Parts<'_>, unnamed: Option<bool>) -> Option<bool>
+        ensures { (question : Question) (otherwise : Otherwise) → code asked.now ≡ code_of question
+            → unnamed ≡ unnamed_answer otherwise question
+            → IsAnswer self.now otherwise question result }
+    {
+        if self.true_names.has(asked) {
             Some(true)
-        } else if self.unknown_names.has(predicate) {
+        } else if self.unknown_names.has(asked) {
             None
         } else {
-            unnamed_answer(predicate, otherwise)
+            unnamed
         }
     }
 }
@@ -246,7 +258,7 @@ fn add_text<'a, A: SmallAllocator>(
 }
 
 /// Returns the answer to a predicate that no fact names.
-fn unnamed_answer(predicate: &Predicate<'_>, otherwise: Otherwise) -> Option<bool>
+pub(super) fn unnamed_answer(predicate: &Predicate<'_>, otherwise: Otherwise) -> Option<bool>
     ensures { result ≡ unnamed_answer otherwise (question_of predicate.now) }
 {
     match otherwise {

@@ -17,7 +17,7 @@ use std::marker::Model;
 
 /// A predicate in parts. Different predicates have different parts.
 #[derive(Clone, Copy)]
-struct Parts<'a> {
+pub(super) struct Parts<'a> {
     /// The number of its kind
     kind: u32,
     /// Its value, if that is a number or a byte order, else 0
@@ -29,10 +29,10 @@ struct Parts<'a> {
 }
 
 impl<'a> Parts<'a> {
-    ghost use Rattle.cfgx_engine.specs.internal.Names.{code, code_cmp, code_of};
+    ghost use Rattle.cfgx_engine.specs.internal.Names.{code, code_of};
 
     /// Returns the parts of a predicate.
-    fn of(predicate: &'a Predicate<'_>) -> Parts<'a>
+    pub(super) fn of(predicate: &'a Predicate<'_>) -> Parts<'a>
         ensures { code result ≡ code_of (question_of predicate.now) }
     {
         let (number, text) = value_of(predicate);
@@ -42,20 +42,6 @@ impl<'a> Parts<'a> {
             key: key_of(predicate).as_bytes(),
             value: text.as_bytes(),
         }
-    }
-
-    /// Compares the kinds, and then what else differs first.
-    fn compare(&self, other: &Parts<'_>) -> Ordering
-        ensures { result ≡ code_cmp (code self.now) (code other.now) }
-    {
-        let numbers = self
-            .kind
-            .cmp(&other.kind)
-            .then(self.number.cmp(&other.number));
-        if numbers.is_ne() {
-            return numbers;
-        }
-        self.key.cmp(&other.key).then(self.value.cmp(&other.value))
     }
 }
 
@@ -111,7 +97,7 @@ struct Named {
 }
 
 impl Named {
-    ghost use Rattle.cfgx_engine.specs.internal.Names.{code, code_at};
+    ghost use Rattle.cfgx_engine.specs.internal.Names.{code, code_at, code_cmp};
 
     /// Returns the parts, whose texts lie in `buffer`.
     fn parts(self, buffer: &[u8]) -> Parts<'_>
@@ -124,6 +110,24 @@ impl Named {
             key: front(texts, self.key_len),
             value: front(behind(texts, self.key_len), self.value_len),
         }
+    }
+
+    /// Compares the kinds, and then what else differs first. The texts lie in `buffer`.
+    fn compare(self, buffer: &[u8], other: &Parts<'_>) -> Ordering
+        ensures { result ≡ code_cmp (code_at buffer.now self) (code other.now) }
+    {
+        let numbers = self
+            .kind
+            .cmp(&other.kind)
+            .then(self.number.cmp(&other.number));
+        // Most of those that halving meets differ here, and their texts need not be cut.
+        if numbers.is_ne() {
+            return numbers;
+        }
+        let texts = behind(buffer, self.start);
+        let key = front(texts, self.key_len);
+        let value = front(behind(texts, self.key_len), self.value_len);
+        key.cmp(&other.key).then(value.cmp(&other.value))
     }
 }
 
@@ -163,7 +167,7 @@ impl<A: Allocator> Model for Names<A> {
 }
 
 impl<A: Allocator> Names<A> {
-    ghost use Rattle.cfgx_engine.specs.internal.Names.{code_cmp, code_of};
+    ghost use Rattle.cfgx_engine.specs.internal.Names.{code, code_cmp, code_of};
 
     /// Makes an empty list. Takes no memory.
     pub(super) fn new(alloc: A) -> Names<A>
@@ -213,31 +217,29 @@ impl<A: Allocator> Names<A> {
         ensures sorted { IsSorted code_cmp self.new }
     {
         let buffer = self.buffer.as_slice();
-        self.named.sort_unstable_by(|one, other| {
-            one.parts(buffer).compare(&other.parts(buffer))
-        });
+        self.named
+            .sort_unstable_by(|one, other| one.compare(buffer, &other.parts(buffer)));
     }
 
-    /// Whether `predicate` is among those that are sorted.
+    /// Whether the predicate with the parts `asked` is among those that are sorted.
     // Inlined, so that an empty list costs no call.
     #[inline(always)]
-    pub(super) fn has(&self, predicate: &Predicate<'_>) -> bool
+    pub(super) fn has(&self, asked: &Parts<'_>) -> bool
         requires { IsSorted code_cmp self.now }
-        ensures { IsTrue result ↔ Contains self.now (code_of (question_of predicate.now)) }
+        ensures { IsTrue result ↔ Contains self.now (code asked.now) }
     {
-        !self.named.is_empty() && self.finds(predicate)
+        !self.named.is_empty() && self.finds(asked)
     }
 
-    /// Searches `predicate` among those that are sorted, by halving.
-    fn finds(&self, predicate: &Predicate<'_>) -> bool
+    /// Searches the predicate with the parts `asked` among those that are sorted, by halving.
+    fn finds(&self, asked: &Parts<'_>) -> bool
         requires { IsSorted code_cmp self.now }
-        ensures { IsTrue result ↔ Contains self.now (code_of (question_of predicate.now)) }
+        ensures { IsTrue result ↔ Contains self.now (code asked.now) }
     {
         let buffer = self.buffer.as_slice();
-        let asked = Parts::of(predicate);
         let found = self
             .named
-            .binary_search_by(|named| named.parts(buffer).compare(&asked));
+            .binary_search_by(|named| named.compare(buffer, asked));
         found.is_ok()
     }
 }

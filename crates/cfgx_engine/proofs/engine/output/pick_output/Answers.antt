@@ -7,8 +7,8 @@ use Rattle.cfgx_engine.proofs.engine.output.pick_output.Goals as goal
 -- there is no such target
 pub returns-in_default-clause-right : goal.returns-in_default-clause-right
 returns-in_default-clause-right g c =
-    let same = builtin-same _ _ (sym c.in_default.is ∙ c.in_ok-target.ensures) in
-    PrintsInput-any (Request.pick c.args.triple.now) _ _ refl (λ input. rw same c.constant.ensures)
+    PrintsInput-any (Request.pick c.args.triple.now) _ _ refl (λ input.
+    rw (builtin-same _ _ (sym c.in_default.is ∙ c.in_ok-target.ensures)) c.constant.ensures)
 
 -- the row that was found is the built-in one, so the request reads its input
 pub returns-in_err-input-clause-others : goal.returns-in_err-input-clause-others

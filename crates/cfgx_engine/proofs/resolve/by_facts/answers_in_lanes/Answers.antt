@@ -11,7 +11,8 @@ loop-facts-init g c =
 
 pub loop-facts-preserved : goal.loop-facts-preserved
 loop-facts-preserved g c =
-    Put-more _ _ _ _ _ _ _ _ _ c.requires c.in-Some.ensures.cases.0 c.answer.ensures
+    Put-more _ _ _ _ _ _ _ _ _ c.requires c.in-Some.ensures.cases.0 (c.answer_to.ensures _ _
+    c.of-asked.ensures c.unnamed_answer-unnamed.ensures)
     c.push_front-answers.ensures c.loop-facts.invariant
 
 pub returns : goal.returns

@@ -1,7 +1,6 @@
 use Rattle.std.proofs.Common.{of_calls, rules}
 use Rattle.std.proofs.lemmas.Fn.{always_returns_same}
-use Rattle.cfg_expr.specs.Predicate.{question_of}
-use Rattle.cfgx_engine.specs.internal.Names.{code_at, code_cmp, code_of}
+use Rattle.cfgx_engine.specs.internal.Names.{code, code_at, code_cmp}
 use Rattle.cfgx_engine.proofs.NameLemmas.{found}
 use Rattle.cfgx_engine.proofs.resolve.names.Names.finds.Goals as goal
 
@@ -9,7 +8,7 @@ use Rattle.cfgx_engine.proofs.resolve.names.Names.finds.Goals as goal
 pub returns : goal.returns
 returns g c =
     let key = code_at c.as_slice-buffer.result.now in
-    let asked = code_of (question_of c.args.predicate.now) in
+    let asked = code c.args.asked.now in
     let searched = c.binary_search_by-found.ensures in
     rw (
       ← c.self.view_is,
