@@ -116,11 +116,12 @@ impl Named {
     fn compare(self, buffer: &[u8], other: &Parts<'_>) -> Ordering
         ensures { result ≡ code_cmp (code_at buffer.now self) (code other.now) }
     {
-        let numbers = self
-            .kind
-            .cmp(&other.kind)
-            .then(self.number.cmp(&other.number));
-        // Most of those that halving meets differ here, and their texts need not be cut.
+        // Most of those that halving meets have another kind, so nothing else is looked at.
+        let kinds = self.kind.cmp(&other.kind);
+        if kinds.is_ne() {
+            return kinds;
+        }
+        let numbers = self.number.cmp(&other.number);
         if numbers.is_ne() {
             return numbers;
         }
