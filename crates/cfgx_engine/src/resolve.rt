@@ -166,29 +166,15 @@ impl<A: SmallAllocator> Decider<A> {
         ensures refused { OnErr result ((self.new.answers.items ≡ [])
             × (held self.new.decision ≡ held self.old.decision)) }
     {
-        let decided = self.ask_and_decide(condition, matcher);
-        if decided.is_err() {
-            self.answers.clear();
+        if ask_each(matcher, condition.predicates(), &mut self.answers).is_ok() {
+            let answers = self.answers.as_slice();
+            let decided = condition.decide(self.alloc, answers, &mut self.decision);
+            if decided.is_ok() {
+                return decided;
+            }
         }
-        decided
-    }
-
-    /// Does what `decide` does, but may leave some answers if memory is refused.
-    fn ask_and_decide<M: TargetMatcher>(
-        &mut self,
-        condition: &Condition<'_>,
-        matcher: &M,
-    ) -> Result<(), AllocError>
-        ensures decision { OnOk result ((one : HasOneTree condition.now)
-            × DecidesExactly one.tree
-            (map (answer_by (M.answer matcher.now)) (asked one.tree)) self.new.decision) }
-        ensures answers { OnOk result ((one : HasOneTree condition.now)
-            × (self.new.answers.items
-            ≡ map (answer_by (M.answer matcher.now)) (asked one.tree))) }
-        ensures refused { OnErr result (held self.new.decision ≡ held self.old.decision) }
-    {
-        ask_each(matcher, condition.predicates(), &mut self.answers)?;
-        condition.decide(self.alloc, self.answers.as_slice(), &mut self.decision)
+        self.answers.clear();
+        Err(AllocError)
     }
 }
 
