@@ -26,10 +26,10 @@ use Rattle.cfgx_engine.specs.Facts.{IsFirstFaulty as IsFirstRefused, IsRustcFact
 use Rattle.cfgx_engine.specs.declared.resolve.facts.FactsError.{FactsError}
 use Rattle.cfgx_engine.specs.declared.resolve.facts.FactsError.TheVariants as facts_error
 use Rattle.cfgx_c.specs.Ends.{parts_from}
-use Rattle.cfgx_c.specs.Answers.{IsCondition, IsFact, IsFaulty, IsFirstBad, IsFirstFaulty}
-use Rattle.cfgx_c.specs.Answers.{IsFirstFaultyFact, IsFirstNotUtf8}
-use Rattle.cfgx_c.specs.internal.Reading.{FailsFor, FailsForFacts, FailsForText, FailsForTexts}
-use Rattle.cfgx_c.specs.internal.Reading.{FactFits, IsUtf8Front, RefusesFor, fact_error, place_of}
+use Rattle.cfgx_c.specs.Faults.{IsCondition, IsFact, IsFaulty, IsFirstBad, IsFirstFaulty}
+use Rattle.cfgx_c.specs.Faults.{IsFirstFaultyFact, IsFirstNotUtf8}
+use Rattle.cfgx_c.specs.internal.Reading.{FailsFor, FailsForFacts, FailsForTexts}
+use Rattle.cfgx_c.specs.internal.Reading.{FactFits, IsUtf8Front, RefusesWith, fact_error, place_of}
 use Rattle.cfgx_c.specs.internal.Reading.{status_of, text_error, views}
 use Rattle.cfgx_c.specs.declared.reading.ReadError.{ReadError}
 use Rattle.cfgx_c.specs.declared.reading.ReadError.TheVariants as error
@@ -217,53 +217,20 @@ Reports-from texts facts error.Memory old fails = record {
   fails = search rules;
 }
 
--- the status of the error of a text says what is wrong with it
-pub RefusesFor-from : (text answers : List ℕ) (failed : ReadError) → FailsForText text failed
-    → RefusesFor text answers (status_of failed)
-RefusesFor-from text answers (error.Faulty number) fails = (
-  (λ is. fails.1, (λ is. absurd (omega (arith, is)), λ other. fails.1.0)),
-  λ is. absurd (omega (arith, is)),
-  search rules,
-  search rules,
-  search rules,
-)
-RefusesFor-from text answers (error.NotUtf8 number) fails = (
-  (λ is. absurd (omega (arith, is)), (λ is. fails.1, λ other. absurd (other refl))),
-  λ is. absurd (omega (arith, is)),
-  search rules,
-  search rules,
-  search rules,
-)
-RefusesFor-from text answers (error.FaultyFact number) fails = absurd fails
-RefusesFor-from text answers error.Memory fails = (
-  (λ is. absurd (omega (arith, is)), (λ is. absurd (omega (arith, is)), λ other. fails)),
-  λ is. absurd (omega (arith, is)),
-  search rules,
-  search rules,
-  search rules,
-)
+-- the error of the facts, if the text is a condition
+pub RefusesWith-facts : (text : List ℕ) (facts : List (List ℕ)) (failed : ReadError)
+    → IsCondition text → FailsForFacts 0 facts failed → RefusesWith text facts (status_of failed)
+RefusesWith-facts text facts (error.Faulty number) good fails = absurd fails
+RefusesWith-facts text facts (error.NotUtf8 number) good fails = absurd fails
+RefusesWith-facts text facts (error.FaultyFact number) good fails = record {
+  of_text = search rules;
+  of_fact = λ is. (good, fails.0, fails.2);
+  fails = search rules;
+}
+RefusesWith-facts text facts error.Memory good fails =
+    record { of_text = search rules; of_fact = λ is. absurd (omega (arith, is)); fails = search rules }
 
--- so is the error of one text
-pub FailsFor-text : (text : List ℕ) (facts : List (List ℕ)) (failed : ReadError)
-    → FailsForText text failed → FailsFor (text ∷ []) facts failed
-FailsFor-text text facts (error.Faulty number) fails =
-    record {
-      item = text;
-      stands = rw fails.0 refl;
-      before = rw fails.0 (All-nil IsCondition);
-      bad = fails.1;
-    }
-FailsFor-text text facts (error.NotUtf8 number) fails =
-    record {
-      item = text;
-      stands = rw fails.0 refl;
-      before = rw fails.0 (All-nil IsCondition);
-      bad = fails.1;
-    }
-FailsFor-text text facts (error.FaultyFact number) fails = absurd fails
-FailsFor-text text facts error.Memory fails = tt
-
--- and the error of the facts, if the texts are conditions
+-- and of several texts, if the texts are conditions
 pub FailsFor-facts : (texts facts : List (List ℕ)) (failed : ReadError) → All IsCondition texts
     → FailsForFacts 0 facts failed → FailsFor texts facts failed
 FailsFor-facts texts facts (error.Faulty number) good fails = absurd fails

@@ -4,6 +4,7 @@ pub mod Buffer
 pub mod Check
 pub mod Decide
 pub mod Ends
+pub mod Faults
 pub mod Predicates
 pub mod Run
 pub mod Status

@@ -6,7 +6,7 @@ ghost use Rattle.cfgx_c.specs.Steps.{Applies, AreCMiscounted, HaveNoCValue};
 ghost use Rattle.cfgx_c.specs.Value.{byte_of_value};
 ghost use Rattle.cfgx_c.specs.internal.Applying.{DoNotApply};
 
-use crate::answers::{answers_of, byte_of_value};
+use crate::bytes::{answers_of, byte_of_value};
 use crate::status::{DONE, MISCOUNTED, NO_VALUE, OUT_OF_MEMORY};
 use crate::steps::{CfgxStep, read_steps};
 use cfg_expr::expr::{StepsError, eval_steps};
@@ -14,6 +14,8 @@ use smallvec::SmallVec;
 use std::alloc::Global;
 
 /// Evaluates the steps over `answers`. Takes no memory for up to 33 steps with up to 33 answers.
+///
+/// The error is that of `eval_steps`.
 fn eval_c_steps(
     alloc: Global,
     steps: &[CfgxStep],

@@ -5,22 +5,24 @@ ghost use Rattle.std.specs.List.{All};
 ghost use Rattle.cfgx_syntax.specs.Stripping.{strip};
 ghost use Rattle.cfgx_engine.specs.Audits.{AreValues};
 ghost use Rattle.cfgx_engine.specs.Facts.{IsAnswer};
-ghost use Rattle.cfgx_c.specs.Answers.{IsCondition, IsFact, IsFirstFaulty, IsFirstFaultyFact};
-ghost use Rattle.cfgx_c.specs.Answers.{IsFirstNotUtf8};
+ghost use Rattle.cfgx_c.specs.Faults.{IsCondition, IsFact, IsFirstFaulty, IsFirstFaultyFact};
+ghost use Rattle.cfgx_c.specs.Faults.{IsFirstNotUtf8};
 ghost use Rattle.cfgx_c.specs.Audit.{AreAllEnds, FillsValues, ValuesBy};
 ghost use Rattle.cfgx_c.specs.Ends.{parts};
 ghost use Rattle.cfgx_c.specs.internal.Reading.{FailsFor, FailsForTexts, views};
 ghost use Rattle.cfgx_c.specs.Status.{bad_ends, done, faulty, faulty_fact, miscounted, no_value};
 ghost use Rattle.cfgx_c.specs.Status.{not_utf8, too_large, wrong_use};
 
+use crate::answers::{fill_values, otherwise_of};
 use crate::ends::{are_ends, parts, utf8_front};
-use crate::facts::{fill_values, otherwise_of};
 use crate::reading::{ReadError, read_targets, text_error};
 use crate::status::{BAD_ENDS, DONE, TOO_LARGE};
 use cfgx_engine::resolve::{Facts, Otherwise, audit_facts};
 use std::alloc::Global;
 
 /// Reads each text once, and returns the values of the texts on the targets.
+///
+/// The error is what is wrong with the texts.
 fn audit_texts(
     alloc: Global,
     texts: &[&[u8]],

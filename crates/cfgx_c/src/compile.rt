@@ -3,7 +3,7 @@
 ghost use Rattle.std.specs.Prelude.{◌≡◌, ◌≢◌, ◌≤◌, IfOk, map};
 ghost use Rattle.cfgx_grammar.specs.Answer.{HasOneTree};
 ghost use Rattle.cfg_expr.specs.Steps.{steps_of};
-ghost use Rattle.cfgx_c.specs.Answers.{TellsOf};
+ghost use Rattle.cfgx_c.specs.Faults.{TellsOf};
 ghost use Rattle.cfgx_c.specs.Status.{done, not_utf8, wrong_use};
 ghost use Rattle.cfgx_c.specs.Steps.{Compiles, c_step};
 

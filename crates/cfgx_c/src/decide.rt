@@ -4,14 +4,14 @@ ghost use Rattle.std.specs.Prelude.{◌≡◌, ◌≢◌, ◌≤◌, ◌++◌, I
 ghost use Rattle.cfgx_syntax.specs.Stripping.{strip};
 ghost use Rattle.cfg_expr.specs.Given.{AreAnswersTo};
 ghost use Rattle.cfg_expr.specs.Deciding.{Decides};
-ghost use Rattle.cfgx_c.specs.Answers.{TellsOf};
+ghost use Rattle.cfgx_c.specs.Faults.{TellsOf};
 ghost use Rattle.cfgx_c.specs.Decide.{DecidesOver, filling_bytes, fillings_in, value_in};
 ghost use Rattle.cfgx_c.specs.Status.{done, miscounted, wrong_use};
 ghost use Rattle.cfgx_c.specs.Value.{HasOtherCount, answer_of, byte_of_value};
 
-use crate::answers::{answers_of, byte_of_value};
 use crate::buffer::fill;
-use crate::reading::read_for;
+use crate::bytes::{answers_of, byte_of_value};
+use crate::reading::read_answered;
 use crate::status::{DONE, OUT_OF_MEMORY};
 use cfg_expr::Decision;
 use cfg_expr::expr::{Condition, ConditionReader};
@@ -28,6 +28,8 @@ fn value_in(decision: &Decision) -> Option<bool>
 }
 
 /// Appends the truth values of `filling` to `bytes`, a byte for each.
+///
+/// The error is that memory was refused.
 fn push_filling(bytes: &mut Vec<u8>, filling: &[bool]) -> Result<(), AllocError>
     ensures { OnOk result (bytes.new.items ≡ bytes.old.items ++ filling_bytes filling.now) }
 {
@@ -39,6 +41,8 @@ fn push_filling(bytes: &mut Vec<u8>, filling: &[bool]) -> Result<(), AllocError>
 
 /// Returns the bytes of both fillings of a decision, one behind the other, or none if the value is
 /// known.
+///
+/// The error is that `alloc` refused memory.
 fn fillings_in(alloc: Global, decision: &Decision) -> Result<Vec<u8>, AllocError>
     ensures { IfOk result (λ bytes. bytes.items ≡ fillings_in decision.now) }
 {
@@ -51,6 +55,8 @@ fn fillings_in(alloc: Global, decision: &Decision) -> Result<Vec<u8>, AllocError
 }
 
 /// Decides a condition over `answers`, which are in the order of its predicates.
+///
+/// The error is that `alloc` refused memory.
 fn decide_over_bytes(
     alloc: Global,
     condition: &Condition<'_>,
@@ -95,7 +101,7 @@ pub extern "C" fn cfgx_decide(
 {
     *needed = 0;
     let mut reader = ConditionReader::new(alloc);
-    let condition = match read_for(&mut reader, text, answers) {
+    let condition = match read_answered(&mut reader, text, answers) {
         Ok(condition) => condition,
         Err(status) => return status,
     };

@@ -23,7 +23,7 @@ pub(crate) fn are_ends(ends: &[usize], len: usize) -> bool
 
 /// Returns the parts of `bytes` with these ends.
 ///
-/// The error is that `alloc` refused the list.
+/// The error is that `alloc` refused memory.
 pub(crate) fn parts<'a>(
     alloc: Global,
     bytes: &'a [u8],
@@ -42,6 +42,8 @@ pub(crate) fn parts<'a>(
 }
 
 /// Returns the texts before the first one that is not UTF-8.
+///
+/// The error is that `alloc` refused memory.
 pub(crate) fn utf8_front<'a>(alloc: Global, texts: &[&'a [u8]]) -> Result<Vec<&'a str>, AllocError>
     ensures { IfOk result (λ front. IsUtf8Front (views texts.now) (views front.items)) }
 {
@@ -57,7 +59,7 @@ pub(crate) fn utf8_front<'a>(alloc: Global, texts: &[&'a [u8]]) -> Result<Vec<&'
 
 /// Returns the parts of `bytes` with these ends as texts, or `None` if one of them is not UTF-8.
 ///
-/// The error is that `alloc` refused a list.
+/// The error is that `alloc` refused memory.
 pub(crate) fn texts<'a>(
     alloc: Global,
     bytes: &'a [u8],

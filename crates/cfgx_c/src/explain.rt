@@ -4,7 +4,7 @@ ghost use Rattle.std.specs.Prelude.{◌≡◌, ◌≢◌, ◌≤◌, Err};
 ghost use Rattle.cfgx_syntax.specs.Error.{Fault, error_text, fault_in};
 ghost use Rattle.cfgx_syntax.specs.Stripping.{strip};
 ghost use Rattle.cfgx_grammar.specs.Answer.{HasOneTree, ReadsAs};
-ghost use Rattle.cfgx_c.specs.Answers.{TellsUtf8};
+ghost use Rattle.cfgx_c.specs.Faults.{TellsUtf8};
 ghost use Rattle.cfgx_c.specs.Buffer.{Fills};
 ghost use Rattle.cfgx_c.specs.Status.{done, faulty, not_utf8, wrong_use};
 

@@ -3,7 +3,7 @@
 ghost use Rattle.std.specs.Prelude.{◌≡◌, ◌≢◌, ◌≤◌, ◌<◌, ◌+◌, ◌^◌, ℕ, List, IfOk, length};
 ghost use Rattle.cfgx_syntax.specs.Stripping.{strip};
 ghost use Rattle.cfg_expr.specs.Located.{CanBeCut};
-ghost use Rattle.cfgx_c.specs.Answers.{TellsOf};
+ghost use Rattle.cfgx_c.specs.Faults.{TellsOf};
 ghost use Rattle.cfgx_c.specs.Buffer.{Fills};
 ghost use Rattle.cfgx_c.specs.Predicates.{HasSpans, ListsPredicates, c_predicate, moved};
 ghost use Rattle.cfgx_c.specs.Status.{done, not_utf8, wrong_use};
@@ -70,7 +70,7 @@ fn c_predicate(predicate: LocatedPredicate, offset: usize) -> CfgxPredicate
 /// Returns the predicates of `text`, from which `condition` was read, in the order in which they
 /// are asked.
 ///
-/// The error is that `alloc` refused the list.
+/// The error is that `alloc` refused memory.
 pub(crate) fn predicates_of(
     alloc: Global,
     text: &str,

@@ -5,10 +5,11 @@ ghost use Rattle.std.specs.List.{All, AllZip};
 ghost use Rattle.std.specs.Str.{IsUtf8};
 ghost use Rattle.cfgx_syntax.specs.Stripping.{strip};
 ghost use Rattle.cfg_expr.specs.Given.{AreAnswersTo};
+ghost use Rattle.cfgx_grammar.specs.Answer.{HasOneTree};
 ghost use Rattle.cfgx_engine.specs.Facts.{NameAlike, texts_of};
-ghost use Rattle.cfgx_c.specs.Answers.{IsCondition, IsFact};
+ghost use Rattle.cfgx_c.specs.Faults.{IsFact};
 ghost use Rattle.cfgx_c.specs.Ends.{AreEnds, parts};
-ghost use Rattle.cfgx_c.specs.internal.Reading.{FactFits, FailsForFacts, FailsForText};
+ghost use Rattle.cfgx_c.specs.internal.Reading.{FactFits, FailsForFacts};
 ghost use Rattle.cfgx_c.specs.internal.Reading.{Refuses, RefusesFor, fact_error, place_of};
 ghost use Rattle.cfgx_c.specs.internal.Reading.{status_of, text_error, views};
 
@@ -93,31 +94,15 @@ pub(crate) fn text_error(number: usize, failure: Failure) -> ReadError
     }
 }
 
-/// Reads the only text of a call. Its number in an error is 0.
-pub(crate) fn read_text<'r, 'a>(
-    reader: &'r mut ConditionReader<'a>,
-    text: &'a [u8],
-) -> Result<Condition<'r>, ReadError>
-    ensures ok { IfOk result (λ condition. (condition ≡ strip text.now) × IsCondition text.now) }
-    ensures err { IfErr result (FailsForText text.now) }
-{
-    let Ok(text) = str::from_utf8(text) else {
-        return Err(ReadError::NotUtf8(0));
-    };
-    match reader.read(text) {
-        Ok(condition) => Ok(condition),
-        Err(failure) => Err(text_error(0, failure)),
-    }
-}
-
-/// Reads the only text of a call, which is known to be UTF-8.
+/// Reads the only text of a call.
 ///
 /// The error is the status of the call.
 pub(crate) fn read_condition<'r, 'a>(
     reader: &'r mut ConditionReader<'a>,
     text: &'a str,
 ) -> Result<Condition<'r>, u32>
-    ensures ok { IfOk result (λ condition. condition ≡ strip text.now) }
+    ensures ok { IfOk result (λ condition. (condition ≡ strip text.now)
+        × HasOneTree (strip text.now)) }
     ensures err { IfErr result (Refuses text.now) }
 {
     match reader.read(text) {
@@ -127,10 +112,10 @@ pub(crate) fn read_condition<'r, 'a>(
     }
 }
 
-/// Reads a condition, and counts its predicates: there must be one for each answer.
+/// Reads the only text of a call, and counts its predicates: there must be one for each answer.
 ///
 /// The error is the status of the call.
-pub(crate) fn read_for<'r, 'a>(
+pub(crate) fn read_answered<'r, 'a>(
     reader: &'r mut ConditionReader<'a>,
     text: &'a [u8],
     answers: &[u8],
@@ -139,10 +124,10 @@ pub(crate) fn read_for<'r, 'a>(
     ensures counted { IfOk result (AreAnswersTo answers.now) }
     ensures err { IfErr result (RefusesFor text.now answers.now) }
 {
-    let condition = match read_text(reader, text) {
-        Ok(condition) => condition,
-        Err(error) => return Err(error.status()),
+    let Ok(text) = str::from_utf8(text) else {
+        return Err(NOT_UTF8);
     };
+    let condition = read_condition(reader, text)?;
     if condition.predicates().left() != answers.len() {
         return Err(MISCOUNTED);
     }
@@ -161,6 +146,8 @@ fn fact_error(begin: usize, error: &FactsError) -> ReadError
 }
 
 /// Reads the facts of a target, whose numbers begin at `begin`.
+///
+/// The error is what is wrong with the facts.
 pub(crate) fn read_facts(alloc: Global, begin: usize, facts: &[&[u8]]) -> Result<Facts, ReadError>
     requires { begin + length facts.now < 2 ^ 64 }
     ensures ok { IfOk result (λ read. All IsFact (views facts.now)
@@ -180,6 +167,8 @@ pub(crate) fn read_facts(alloc: Global, begin: usize, facts: &[&[u8]]) -> Result
 
 /// Reads the facts of each target. Target `j` has the facts from the end of the target before it up
 /// to `target_ends[j]`.
+///
+/// The error is what is wrong with the facts.
 pub(crate) fn read_targets(
     alloc: Global,
     facts: &[&[u8]],

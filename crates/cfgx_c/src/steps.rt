@@ -36,7 +36,7 @@ fn c_step(step: Step) -> CfgxStep
 
 /// Returns the steps as C sees them.
 ///
-/// The error is that `alloc` refused the list.
+/// The error is that `alloc` refused memory.
 pub(crate) fn c_steps(alloc: Global, steps: &[Step]) -> Result<Vec<CfgxStep>, AllocError>
     ensures { IfOk result (λ list. list.items ≡ map c_step steps.now) }
 {

@@ -2,12 +2,12 @@
 
 ghost use Rattle.std.specs.Prelude.{◌≡◌, ◌≢◌, ◌≤◌};
 ghost use Rattle.cfgx_syntax.specs.Stripping.{strip};
-ghost use Rattle.cfgx_c.specs.Answers.{TellsOf};
+ghost use Rattle.cfgx_c.specs.Faults.{TellsOf};
 ghost use Rattle.cfgx_c.specs.Status.{done, miscounted, wrong_use};
 ghost use Rattle.cfgx_c.specs.Value.{HasOtherCount, HasValueOver};
 
-use crate::answers::{byte_of_value, eval_over_bytes};
-use crate::reading::read_for;
+use crate::bytes::{byte_of_value, eval_over_bytes};
+use crate::reading::read_answered;
 use crate::status::{DONE, OUT_OF_MEMORY};
 use cfg_expr::expr::ConditionReader;
 use std::alloc::Global;
@@ -28,7 +28,7 @@ pub extern "C" fn cfgx_value(alloc: Global, text: &[u8], answers: &[u8], value: 
     ensures status { (result ≤ miscounted) × (result ≢ wrong_use) }
 {
     let mut reader = ConditionReader::new(alloc);
-    let condition = match read_for(&mut reader, text, answers) {
+    let condition = match read_answered(&mut reader, text, answers) {
         Ok(condition) => condition,
         Err(status) => return status,
     };

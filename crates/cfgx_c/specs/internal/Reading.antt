@@ -9,10 +9,10 @@ use Rattle.cfgx_syntax.specs.declared.error.Failure.{Failure}
 use Rattle.cfgx_syntax.specs.declared.error.Failure.TheVariants as failure
 use Rattle.cfgx_engine.specs.declared.resolve.facts.FactsError.{FactsError}
 use Rattle.cfgx_engine.specs.declared.resolve.facts.FactsError.TheVariants as facts_error
-use Rattle.cfgx_c.specs.Answers.{IsCondition, IsFaulty, IsFirstFaulty, IsFirstFaultyFact}
-use Rattle.cfgx_c.specs.Answers.{IsFirstNotUtf8, TellsOf}
-use Rattle.cfgx_c.specs.Status.{done, faulty, faulty_fact, miscounted, not_utf8, out_of_memory}
-use Rattle.cfgx_c.specs.Status.{wrong_use}
+use Rattle.cfgx_c.specs.Faults.{IsCondition, IsFaulty, IsFirstFaulty, IsFirstFaultyFact}
+use Rattle.cfgx_c.specs.Faults.{IsFirstNotUtf8, TellsOf}
+use Rattle.cfgx_c.specs.Status.{bad_ends, done, faulty, faulty_fact, miscounted, no_value}
+use Rattle.cfgx_c.specs.Status.{not_utf8, out_of_memory, too_large, wrong_use}
 use Rattle.cfgx_c.specs.Value.{HasOtherCount}
 use Rattle.cfgx_c.specs.declared.reading.ReadError.{ReadError}
 use Rattle.cfgx_c.specs.declared.reading.ReadError.TheVariants as error
@@ -64,13 +64,6 @@ FailsForTexts texts (error.NotUtf8 number) = IsFirstNotUtf8 texts number
 FailsForTexts texts (error.FaultyFact number) = ⊥
 FailsForTexts texts error.Memory = Unit {0}
 
--- the error says why the text, whose number is 0, is no condition
-abbrev pub FailsForText : List ℕ → ReadError → Type 0
-FailsForText text (error.Faulty number) = (number ≡ 0) × IsFaulty text
-FailsForText text (error.NotUtf8 number) = (number ≡ 0) × ¬ IsUtf8 text
-FailsForText text (error.FaultyFact number) = ⊥
-FailsForText text error.Memory = IsUtf8 text
-
 -- the status of a call that cannot read its text
 abbrev pub Refuses : List ℕ → ℕ → Type 0
 Refuses text status = TellsOf text status × (status ≢ done) × (status ≢ wrong_use)
@@ -81,6 +74,14 @@ abbrev pub RefusesFor : List ℕ → List ℕ → ℕ → Type 0
 RefusesFor text answers status = TellsOf text status
     × (status ≡ miscounted → HasOtherCount (strip text) answers) × (status ≢ done)
     × (status ≢ wrong_use) × (status ≤ miscounted)
+
+-- the status of `cfgx_answers` that cannot read its text or its facts
+pub record RefusesWith (text : List ℕ) (facts : List (List ℕ)) (status : ℕ) : Type 0 where
+  pub of_text : TellsOf text status
+  pub of_fact : status ≡ faulty_fact → IsCondition text × (number : ℕ)
+      × IsFirstFaultyFact facts number
+  pub fails : (status ≤ faulty_fact) × (status ≢ done) × (status ≢ wrong_use)
+      × (status ≢ miscounted) × (status ≢ bad_ends) × (status ≢ no_value) × (status ≢ too_large)
 
 -- the error says which of the facts, whose numbers begin at `begin`, is the first faulty one
 abbrev pub FailsForFacts : ℕ → List (List ℕ) → ReadError → Type 0

@@ -1,6 +1,6 @@
 use Rattle.std.proofs.Common.{◌≡◌, arith, length}
 use Rattle.std.specs.Str.{IsUtf8}
-use Rattle.cfgx_c.specs.{Answers.IsCondition, internal.Reading.views}
+use Rattle.cfgx_c.specs.{Faults.IsCondition, internal.Reading.views}
 use Rattle.cfgx_c.proofs.InputLemmas.{FailsForTexts-audit, bad-not_utf8, conditions-good}
 use Rattle.cfgx_c.proofs.InputLemmas.{front-whole}
 use Rattle.cfgx_c.proofs.audit.audit_texts.Goals as goal

@@ -11,7 +11,7 @@ returns-clause-done c is =
     let steps = c.in-Ok-compiled.step_list in
     let list = c.in-Ok-predicates_of.list in
     let found = subst (λ text. (one : HasOneTree text)
-    × (steps.items ≡ map c_step (steps_of one.tree))) c.in-Ok-read_condition.ensures.ok
+    × (steps.items ≡ map c_step (steps_of one.tree))) c.in-Ok-read_condition.ensures.ok.0
     c.in-Ok-compiled.ensures in
     rw (← c.in-Ok.ensures.cases.0) (record {
       one = found.0;

@@ -4,7 +4,7 @@ use Rattle.std.specs.List.{slice_range}
 use Rattle.std.proofs.lemmas.List.{drop_all, length-map, take_all}
 use Rattle.std.proofs.lemmas.{List.Elements.All-append, Result.err_from_is_err_and}
 use Rattle.std.proofs.lemmas.Slice.Zip.{all_zipped_more}
-use Rattle.cfgx_c.specs.{Answers.IsFact, internal.Reading.views}
+use Rattle.cfgx_c.specs.{Faults.IsFact, internal.Reading.views}
 use Rattle.cfgx_c.proofs.EndsLemmas.{begin-le, next_end, next_part}
 use Rattle.cfgx_c.proofs.InputLemmas.{FailsForFacts-piece, take-range, views-range}
 use Rattle.cfgx_c.proofs.reading.read_targets.Goals as goal

@@ -1,7 +1,7 @@
 use Rattle.std.proofs.Common.{◌≡◌, ◌++◌, ℕ, All, List, drop, length, take}
 use Rattle.std.specs.List.{AllZip}
 use Rattle.cfgx_engine.specs.Facts.{FactTexts, NameAlike, texts_of}
-use Rattle.cfgx_c.specs.{Answers.IsFact, internal.Reading.views}
+use Rattle.cfgx_c.specs.{Faults.IsFact, internal.Reading.views}
 use Rattle.cfgx_c.specs.Ends.{AreEndsFrom, parts, parts_from}
 use Rattle.cfgx_c.proofs.reading.read_targets.Given as goal
 

@@ -2,7 +2,7 @@
 use Rattle.std.{proofs.Common.◌≡◌, proofs.Common.◌++◌, proofs.Common.List, specs.List.AllZip}
 use Rattle.cfgx_grammar.specs.Question.{Question}
 use Rattle.cfgx_engine.specs.Facts.{IsAnswer}
-use Rattle.cfgx_c.proofs.facts.answers_to.Given as goal
+use Rattle.cfgx_c.proofs.answers.answers_to.Given as goal
 
 abbrev pub invariant-loop-predicate : goal.invariant-loop-predicate
 invariant-loop-predicate l = (front : List Question)

@@ -2,7 +2,7 @@
 use Rattle.std.proofs.Common.{◌∙◌, ◌++◌, ◌∷◌, [], append_assoc, append-nil}
 use Rattle.std.proofs.lemmas.Slice.Zip.{all_zipped_more}
 use Rattle.cfg_expr.specs.Predicate.{question_of}
-use Rattle.cfgx_c.proofs.facts.answers_to.Goals as goal
+use Rattle.cfgx_c.proofs.answers.answers_to.Goals as goal
 
 pub loop-predicate-preserved : goal.loop-predicate-preserved
 loop-predicate-preserved c =

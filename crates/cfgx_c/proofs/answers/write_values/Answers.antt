@@ -2,7 +2,7 @@ use Rattle.std.proofs.Common.{◌≡◌, ◌∙◌, ◌++◌, ap, arith, drop, l
 use Rattle.std.proofs.lemmas.List.{take_all}
 use Rattle.cfgx_c.specs.Value.{byte_of_value}
 use Rattle.cfgx_c.proofs.InputLemmas.{written-more}
-use Rattle.cfgx_c.proofs.facts.write_values.Goals as goal
+use Rattle.cfgx_c.proofs.answers.write_values.Goals as goal
 
 -- one byte more
 pub loop-i-preserved : goal.loop-i-preserved

@@ -6,7 +6,7 @@ use Rattle.std.proofs.lemmas.List.{length-map}
 use Rattle.std.proofs.lemmas.Result.{IfOk-weaker}
 use Rattle.std.specs.Iterator.{AlwaysYields}
 use Rattle.cfgx_c.specs.Value.{answer_of}
-use Rattle.cfgx_c.proofs.answers.eval_over_bytes.Goals as goal
+use Rattle.cfgx_c.proofs.bytes.eval_over_bytes.Goals as goal
 
 runs_of : {S A B : Type 0} {steps : S → Option A → S → Type 0} {v : A → B} {s : S} {ys : List B}
     → YieldsList steps v s ys → AlwaysYields steps v s ys
