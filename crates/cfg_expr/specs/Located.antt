@@ -1,23 +1,19 @@
 -- Where the predicates of a condition stand in its text.
-use Rattle.std.specs.Prelude.{◌≡◌, ℕ, List, [], Option, Some, None, option_map, map}
-use Rattle.std.specs.List.{AllZip, filter_map}
+use Rattle.std.specs.Prelude.{◌≡◌, ℕ, ◌+◌, ◌-◌, List, [], ◌∷◌, ◌++◌, Option, Some, None}
+use Rattle.std.specs.Prelude.{option_map}
+use Rattle.std.specs.List.{AllZip}
 use Rattle.cfgx_fields.specs.declared.atomic.HasAtomic.{HasAtomic}
 use Rattle.cfgx_fields.specs.declared.atomic.HasAtomic.TheVariants as atomic
 use Rattle.cfgx_fields.specs.declared.endian.Endian.{Endian}
 use Rattle.cfgx_fields.specs.declared.endian.Endian.TheVariants as endian
+use Rattle.cfgx_syntax.specs.Items.{AreItems, Ending, Item}
+use Rattle.cfgx_syntax.specs.Token.{Token}
 use Rattle.cfgx_grammar.specs.Answer.{HasOneTree}
+use Rattle.cfgx_grammar.specs.Classification.{class, predicate}
 use Rattle.cfgx_grammar.specs.Question.{Question, TargetQuestion}
-use Rattle.cfgx_grammar.specs.Tree.{Tree, asked}
+use Rattle.cfgx_grammar.specs.Tree.{Tree, Trees, asked}
 use Rattle.cfgx_parser.specs.Kinds.{kind_of}
-use Rattle.cfgx_parser.specs.nodes.KeepsTree.{predicate_at}
-use Rattle.cfgx_parser.specs.nodes.Located.{IsSpan, at, question_at, question_with, whole_span}
-use Rattle.cfgx_parser.specs.nodes.Prefix.{node_map, prefix}
-use Rattle.cfgx_parser.specs.nodes.ReadFrom.{AreRead}
-use Rattle.cfgx_parser.specs.declared.nodes.ExprNode.{ExprNode}
-use Rattle.cfgx_parser.specs.declared.nodes.InnerPredicate.{InnerPredicate}
-use Rattle.cfgx_parser.specs.declared.nodes.InnerPredicate.TheVariants as inner
-use Rattle.cfgx_parser.specs.declared.nodes.InnerTarget.TheVariants as target
-use Rattle.cfgx_parser.specs.declared.nodes.Located.{Located}
+use Rattle.cfgx_parser.specs.nodes.Located.{IsSpan, at}
 use Rattle.cfgx_parser.specs.declared.nodes.Span.{Span}
 use Rattle.cfg_expr.specs.declared.expr.located.LocatedPredicate.{LocatedPredicate}
 
@@ -75,40 +71,76 @@ pub record Locates (text : List ℕ) (question : Question) (predicate : LocatedP
     pub key : StandAt text (key_text question) predicate.key
     pub value : StandAt text (value_text question) predicate.value
 
--- the span of a node's key, if its kind does not say the key
-abbrev pub key_span : Span → InnerPredicate → Option Span
-key_span span inner.Flag = Some span
-key_span span inner.KeyValue = Some span
-key_span span _ = None
-
--- the span of a node's value, if there is one and the number does not say it
-abbrev pub value_span : Span → InnerPredicate → Option Span
-value_span span (inner.Target (target.Text key)) = Some span
-value_span span inner.Feature = Some span
-value_span span inner.TargetFeature = Some span
-value_span span inner.KeyValue = Some span
-value_span span _ = None
-
--- the predicate of a node
-abbrev pub of_node : Located → LocatedPredicate
-of_node node = record {
-  kind = kind_of (question_with [] [] node.asked);
-  number = number_of (question_with [] [] node.asked);
-  key = key_span node.key node.asked;
-  value = value_span node.value node.asked;
-  span = whole_span node;
+-- the predicate with these spans of its key, of its value and of the whole
+abbrev pub located_predicate : Span → Span → Span → Question → LocatedPredicate
+located_predicate key value whole question = record {
+  kind = kind_of question;
+  number = number_of question;
+  key = option_map (λ _. key) (key_text question);
+  value = option_map (λ _. value) (value_text question);
+  span = whole;
 }
 
+-- the span of a token, and that between the quotes of a value
+abbrev pub token_span : Item → Span
+token_span item = record { start = item.start; end = item.end }
+
+abbrev pub inside_span : Item → Span
+inside_span item = record { start = item.start + 1; end = item.end - 1 }
+
+-- The predicate was read from these tokens, and has their spans: from a key, or from a key, the
+-- token behind it and a value. The key of `unix` and of `windows` is their value.
+pub data IsTakenFrom : List Item → LocatedPredicate → Type 0 where
+  key : (x : Item) (name : List ℕ) (question : Question) → x.token ≡ Token.key name
+      → class name None ≡ predicate question
+      → IsTakenFrom (x ∷ [])
+      (located_predicate (token_span x) (token_span x) (token_span x) question)
+  value : (x y z : Item) (name text : List ℕ) (question : Question) → x.token ≡ Token.key name
+      → z.token ≡ Token.value text → class name (Some text) ≡ predicate question
+      → IsTakenFrom (x ∷ y ∷ z ∷ [])
+      (located_predicate (token_span x) (inside_span z)
+      (record { start = x.start; end = z.end }) question)
+
+-- the predicates were read from the tokens, one behind another
+abbrev pub AreTakenFrom : List Item → List LocatedPredicate → Type 0
+AreTakenFrom items [] = Unit {0}
+AreTakenFrom items (one ∷ others) = (before : List Item) × (own : List Item)
+    × (after : List Item) × (items ≡ before ++ (own ++ after)) × IsTakenFrom own one
+    × AreTakenFrom after others
+
+abbrev mutual
+  -- the tree with `f` of each leaf
+  pub tree_map : {X Y : Type 0} → (X → Y) → Tree X → Tree Y
+  tree_map f (Tree.leaf x) = Tree.leaf (f x)
+  tree_map f (Tree.literal truth) = Tree.literal truth
+  tree_map f (Tree.list function trees) = Tree.list function (trees_map f trees)
+  tree_map f (Tree.not tree) = Tree.not (tree_map f tree)
+
+  pub trees_map : {X Y : Type 0} → (X → Y) → Trees X → Trees Y
+  trees_map f Trees.none = Trees.none
+  trees_map f (Trees.more tree trees) = Trees.more (tree_map f tree) (trees_map f trees)
+
+abbrev mutual
+  -- the predicates of a tree in the order of the text
+  pub in_text_order : {X : Type 0} → Tree X → List X
+  in_text_order (Tree.leaf x) = x ∷ []
+  in_text_order (Tree.literal truth) = []
+  in_text_order (Tree.list function trees) = each_in_text_order trees
+  in_text_order (Tree.not tree) = in_text_order tree
+
+  pub each_in_text_order : {X : Type 0} → Trees X → List X
+  each_in_text_order Trees.none = []
+  each_in_text_order (Trees.more tree trees) = in_text_order tree ++ each_in_text_order trees
+
 -- The predicates are what the text's one tree asks, in this order, each where it stands. `located`
--- is this tree with the spans of each predicate, which was read from the tokens that stand there.
+-- is a tree of the same shape, whose predicates have the same kinds. It asks the predicates, and
+-- they were read from the tokens of the text.
 pub record AreLocated (text : List ℕ) (predicates : List LocatedPredicate) : Type 0 where
   pub one : HasOneTree text
   pub each : AllZip (Locates text) (asked one.tree) predicates
-  pub located : Tree Located
-  pub questions : map (node_map (question_at text)) (prefix located) ≡ prefix one.tree
-  pub read : AreRead text (prefix located)
-  pub listed : predicates ≡ map of_node (asked located)
-
--- the predicates at these places among the nodes
-abbrev pub located_at : List ExprNode → List ℕ → List LocatedPredicate
-located_at nodes places = filter_map (λ place. option_map of_node (predicate_at nodes place)) places
+  pub located : Tree LocatedPredicate
+  pub kinds : tree_map (λ p. p.kind) located ≡ tree_map kind_of one.tree
+  pub listed : predicates ≡ asked located
+  pub items : List Item
+  pub are_items : AreItems text items Ending.blank
+  pub taken : AreTakenFrom items (in_text_order located)

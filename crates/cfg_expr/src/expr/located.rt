@@ -1,7 +1,7 @@
 //! Where the predicates of a condition stand in its text.
 ghost use Rattle.std.specs.Prelude.{◌≡◌, ◌<◌, ◌+◌, ◌^◌, ℕ, List, length};
-ghost use Rattle.cfg_expr.specs.Located.{atomic_number, endian_number, key_span, number_of};
-ghost use Rattle.cfg_expr.specs.Located.{value_span};
+ghost use Rattle.cfg_expr.specs.Located.{atomic_number, endian_number, number_of};
+ghost use Rattle.cfg_expr.specs.nodes.LocatedNode.{key_span, value_span};
 ghost use Rattle.cfgx_parser.specs.nodes.Located.{HasCut, question_with};
 
 use cfgx_fields::atomic::HasAtomic;
@@ -86,7 +86,7 @@ fn value_span(predicate: Located) -> Option<Span>
 }
 
 impl LocatedPredicate {
-    ghost use Rattle.cfg_expr.specs.Located.{of_node};
+    ghost use Rattle.cfg_expr.specs.nodes.LocatedNode.{of_node};
 
     /// Returns the predicate of a node.
     fn of(node: Located) -> Self
@@ -114,7 +114,7 @@ pub struct LocatedPredicates<'a> {
 impl<'a> Model for LocatedPredicates<'a> {
     ghost use Rattle.std.specs.Prelude.{List, ℕ, ◌<◌, ◌+◌, ◌^◌, length};
     ghost use Rattle.cfg_expr.specs.declared.expr.located.LocatedPredicate.{LocatedPredicate};
-    ghost use Rattle.cfg_expr.specs.Located.{located_at};
+    ghost use Rattle.cfg_expr.specs.nodes.LocatedNode.{located_at};
     ghost use Rattle.cfgx_parser.specs.nodes.KeepsTree.{NamePredicates};
 
     ghost Value = { List LocatedPredicate };

@@ -1,6 +1,6 @@
 -- The nodes and the places are those of the text's one tree.
 use Rattle.std.proofs.Common.{arith, subst}
-use Rattle.cfg_expr.specs.Located.{AreLocated, located_at}
+use Rattle.cfg_expr.specs.{Located.AreLocated, nodes.LocatedNode.located_at}
 use Rattle.cfg_expr.proofs.AskedPredicates.{NamePredicates-kept}
 use Rattle.cfg_expr.proofs.Located.{AreLocated-kept}
 use Rattle.cfg_expr.proofs.expr.condition.Condition.located_predicates.Goals as goal

@@ -1,7 +1,7 @@
 -- Each place names a predicate.
 use Rattle.std.proofs.Common.{sym, ap, ◌∙◌, length}
 use Rattle.cfg_expr.proofs.AskedPredicates.{length-named}
-use Rattle.cfg_expr.specs.Located.{of_node}
+use Rattle.cfg_expr.specs.nodes.LocatedNode.{of_node}
 use Rattle.cfg_expr.proofs.expr.located.LocatedPredicates.left.Goals as goal
 
 pub returns : goal.returns
