@@ -99,7 +99,7 @@ fn combine(outcomes: &[Outcome]) -> Outcome {
 }
 
 const TABLES: &[TableToCheck<'_>] = &[
-    ("each growth of a call on a text", texts::TEXTS, 47),
+    ("each growth of a call on a text", texts::TEXTS, 49),
     ("each growth of each run", runs::RUNS, 32),
     ("each growth of each other call", calls::CALLS, 36),
     ("growths of decisions", decisions::DECISIONS, 8),

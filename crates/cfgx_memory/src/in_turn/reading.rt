@@ -84,7 +84,7 @@ any(~any(),    ~60~) | 1 | a | 3 | any(~any(),    ~600~) | 1
 a | 0 | a | 4 | key) | 1 | a | 0
 ) | 1 | a | 0 | a | 4
 // A first text with five predicates in one list leaves the inline room itself.
-any(~a,~5~) | 4 | a | 0 | a | 0
+any(~a,~5~) | 3 | a | 0 | a | 0
 "#;
 
 // Returns whether reading the text returns what parsing it returns, and takes `growths` growths.

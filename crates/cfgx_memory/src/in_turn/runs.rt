@@ -100,7 +100,7 @@ pub(super) fn run_survives(global: Global, words: &[&str], status: u8) -> bool {
 /// - `without memory`: the words. Every growth is refused.
 pub(super) const RUNS: &str = r#"
 each refused | 1 | parse | \e
-each refused | 0 | eval | all(a)
+each refused | 0 | eval | all(a,~true,~4~)
 each refused | 0 | eval | all(a, any(b), c) | a | ?b | c
 each refused | 0 | eval | any(target_os = "linux", feature = "a", not(a), not(b))\
  | ?any(target_os = "linux", key = "v") | all(feature = "b", a, b, c, d, e, f)
@@ -153,7 +153,7 @@ without memory | 2 | pick
 without memory | 2 | pick | a | b
 without memory | 2 | target | nowhere
 without memory | 3 | parse | a
-without memory | 3 | eval | all(a)
+without memory | 3 | eval | all(a,~true,~4~)
 without memory | 3 | target | aarch64-apple-ios | )
 "#;
 

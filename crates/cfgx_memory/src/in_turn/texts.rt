@@ -58,13 +58,15 @@ large | 1 | ~k~5000~
 large | 1 | ~k~100000~
 large | 50000 | any(~a,~50000~)
 large | 1 | ~not(~50000~a~)~50000~
-// `parse` takes one growth for its copy of the text, and one for the nodes if there are two or
+// `parse` takes one growth for its copy of the text, and one for the nodes if there are six or
 // more. Room for more than 3584 nodes takes another one.
 parsed in 1 | 1 | ~k~1~
 parsed in 1 | 1 | ~k~48~
-parsed in 2 | 1 | not(a)
-parsed in 2 | 3 | all(a, b, c)
-parsed in 2 | 3 | any(~target_os = "a",~3~)
+parsed in 1 | 1 | not(a)
+parsed in 1 | 3 | all(a, b, c)
+parsed in 1 | 3 | any(~target_os = "a",~3~)
+parsed in 1 | 1 | any(a,~false,~3~)
+parsed in 2 | 1 | any(a,~false,~4~)
 parsed in 2 | 0 | any(~any(),    ~60~)
 parsed in 3 | 0 | any(~any(),    ~4000~)
 "#;
