@@ -1,5 +1,5 @@
-// The program `cfgx`, which shows what is in conditions such as `cfg(all(unix, target_arch =
-// "x86_64"))`.
+//! The program `cfgx`, which shows what is in conditions such as `cfg(all(unix, target_arch =
+//! "x86_64"))`.
 #![tactic(auto)]
 
 use cfgx_engine::engine::{Counted, run};

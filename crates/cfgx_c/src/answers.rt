@@ -1,4 +1,4 @@
-// The answers of the facts of a target to the predicates of a condition.
+//! The answers of the facts of a target to the predicates of a condition.
 
 ghost use Rattle.std.specs.Prelude.{◌≡◌, ◌≢◌, ◌↔◌, ◌≤◌, ℕ, ◌++◌, IfErr, IfOk};
 ghost use Rattle.std.specs.Prelude.{drop, length, map};

@@ -1,4 +1,4 @@
-// The value that steps leave on a stack.
+//! The value that steps leave on a stack.
 
 ghost use Rattle.std.specs.Prelude.{◌≡◌, ◌≢◌, ◌≤◌, ◌⊎◌, IfErr, IfOk, length};
 ghost use Rattle.cfgx_c.specs.Status.{done, miscounted, no_value, out_of_memory};

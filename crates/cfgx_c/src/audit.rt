@@ -1,4 +1,4 @@
-// The values of many conditions on many targets.
+//! The values of many conditions on many targets.
 
 ghost use Rattle.std.specs.Prelude.{◌≡◌, ◌≢◌, ◌↔◌, ◌≤◌, ◌*◌, ◌^◌, IfErr, IfOk, length, map};
 ghost use Rattle.std.specs.List.{All};

@@ -1,4 +1,4 @@
-// How a call fills the buffers of a caller.
+//! How a call fills the buffers of a caller.
 
 ghost use Rattle.cfgx_c.specs.Buffer.{Fills, FillsBoth};
 

@@ -1,4 +1,4 @@
-// Answers and values as bytes.
+//! Answers and values as bytes.
 
 ghost use Rattle.std.specs.Prelude.{◌≡◌, ◌<◌, IfOk, OnErr, length, map};
 ghost use Rattle.cfgx_grammar.specs.Answer.{HasOneTree};

@@ -1,4 +1,4 @@
-// The check of a text.
+//! The check of a text.
 
 ghost use Rattle.std.specs.Prelude.{◌≡◌, ◌≢◌, ◌≤◌, Err};
 ghost use Rattle.cfgx_syntax.specs.Error.{Fault};

@@ -1,4 +1,4 @@
-// The steps and the predicates of a condition.
+//! The steps and the predicates of a condition.
 
 ghost use Rattle.std.specs.Prelude.{◌≡◌, ◌≢◌, ◌≤◌, IfOk, map};
 ghost use Rattle.cfgx_grammar.specs.Answer.{HasOneTree};

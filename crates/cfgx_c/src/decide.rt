@@ -1,4 +1,4 @@
-// The decision of a condition over answers.
+//! The decision of a condition over answers.
 
 ghost use Rattle.std.specs.Prelude.{◌≡◌, ◌≢◌, ◌≤◌, ◌++◌, IfOk, OnOk, map};
 ghost use Rattle.cfgx_syntax.specs.Stripping.{strip};

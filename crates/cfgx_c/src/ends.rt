@@ -1,4 +1,4 @@
-// Texts that are passed as their bytes and their ends.
+//! Texts that are passed as their bytes and their ends.
 
 ghost use Rattle.std.specs.Prelude.{◌≡◌, ◌↔◌, All, IfOk, IsTrue, MatchOption, length};
 ghost use Rattle.std.specs.Str.{IsUtf8};

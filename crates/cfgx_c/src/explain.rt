@@ -1,4 +1,4 @@
-// What is wrong with a text, in words.
+//! What is wrong with a text, in words.
 
 ghost use Rattle.std.specs.Prelude.{◌≡◌, ◌≢◌, ◌≤◌, Err};
 ghost use Rattle.cfgx_syntax.specs.Error.{Fault, error_text, fault_in};

@@ -1,4 +1,4 @@
-// Faults as C sees them.
+//! Faults as C sees them.
 
 ghost use Rattle.std.specs.Prelude.{◌≡◌};
 ghost use Rattle.cfgx_syntax.specs.Error.{cause_of};

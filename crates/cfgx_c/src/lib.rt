@@ -1,5 +1,5 @@
-// The engine for C, and for each language that can call C. `include/cfgx.h` declares its calls,
-// and `docs/C.md` is its page.
+//! The engine for C, and for each language that can call C. `include/cfgx.h` declares its calls,
+//! and `docs/C.md` is its page.
 #![tactic(auto)]
 
 mod answers;

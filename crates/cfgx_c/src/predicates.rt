@@ -1,4 +1,4 @@
-// The predicates of a condition as C sees them.
+//! The predicates of a condition as C sees them.
 
 ghost use Rattle.std.specs.Prelude.{◌≡◌, ◌≢◌, ◌≤◌, ◌<◌, ◌+◌, ◌^◌, ℕ, List, IfOk, length};
 ghost use Rattle.cfgx_syntax.specs.Stripping.{strip};

@@ -1,4 +1,4 @@
-// Conditions and facts that are passed as bytes.
+//! Conditions and facts that are passed as bytes.
 
 ghost use Rattle.std.specs.Prelude.{◌≡◌, ◌+◌, ◌<◌, ◌^◌, IfErr, IfOk, length, unwrap_or};
 ghost use Rattle.std.specs.List.{All, AllZip};

@@ -1,4 +1,4 @@
-// A run of the program.
+//! A run of the program.
 
 ghost use Rattle.std.specs.Prelude.{◌≡◌, ◌↔◌, ◌<◌, ◌≤◌, ◌⊎◌, All, length};
 ghost use Rattle.std.specs.Str.{IsUtf8};

@@ -1,4 +1,4 @@
-// What the calls return. A number means the same in all calls.
+//! What the calls return. A number means the same in all calls.
 
 /// The call succeeded. A buffer that is too small stays as it was.
 pub(crate) const DONE: u32 = 0;

@@ -1,4 +1,4 @@
-// Steps as C sees them.
+//! Steps as C sees them.
 
 ghost use Rattle.std.specs.Prelude.{◌≡◌, [], IfOk, List, MatchBool, MatchOption, length, map};
 ghost use Rattle.smallvec.specs.SmallVec.{HasRoomFor};

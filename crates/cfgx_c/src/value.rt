@@ -1,4 +1,4 @@
-// The value of a condition over answers.
+//! The value of a condition over answers.
 
 ghost use Rattle.std.specs.Prelude.{◌≡◌, ◌≢◌, ◌≤◌};
 ghost use Rattle.cfgx_syntax.specs.Stripping.{strip};

@@ -1,4 +1,4 @@
-// The version of the calls.
+//! The version of the calls.
 
 ghost use Rattle.std.specs.Prelude.{◌≡◌};
 ghost use Rattle.cfgx_c.specs.Version.{version};

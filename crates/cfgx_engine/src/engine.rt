@@ -1,4 +1,4 @@
-// The engine of the program: its commands, its streams, and the one call that runs it.
+//! The engine of the program: its commands, its streams, and the one call that runs it.
 ghost use Rattle.std.specs.Prelude.{◌≡◌, ◌≢◌, ◌+◌, ◌<◌, ◌≤◌, ◌⊎◌};
 ghost use Rattle.std.specs.Io.KnownBytes.{Appends};
 ghost use Rattle.std.specs.Cow.{cow_slice_items};

@@ -1,4 +1,4 @@
-// Sections of a manifest, each with a condition, and what a target says of them.
+//! Sections of a manifest, each with a condition, and what a target says of them.
 ghost use Rattle.std.specs.Prelude.{◌≡◌, ◌↔◌, [], IfOk, IsTrue, OnErr, OnOk, map};
 ghost use Rattle.std.specs.Cmp.Rules.{comparing};
 ghost use Rattle.std.specs.List.{AllZip};

@@ -1,4 +1,4 @@
-// The command line.
+//! The command line.
 
 ghost use Rattle.std.specs.Prelude.{◌≡◌};
 ghost use Rattle.cfgx_engine.specs.internal.Shows.{command_request};

@@ -1,5 +1,5 @@
-// Laws on the output of a request, for the proofs of callers. Each function has the law as its
-// clause and does nothing.
+//! Laws on the output of a request, for the proofs of callers. Each function has the law as its
+//! clause and does nothing.
 ghost use Rattle.std.specs.List.{AllByRecursion};
 ghost use Rattle.std.specs.Prelude.{◌≡◌, List, ℕ};
 ghost use Rattle.std.specs.Str.{IsUtf8};

@@ -1,4 +1,4 @@
-// The output of `parse`: the predicates of a condition, one on each line.
+//! The output of `parse`: the predicates of a condition, one on each line.
 
 ghost use Rattle.std.specs.Prelude.{◌≡◌, ◌++◌, IfOk, OnOk};
 ghost use Rattle.cfgx_engine.specs.Output.{text_line, lines};

@@ -1,4 +1,4 @@
-// The output of a command, which is built in memory before any of it is written.
+//! The output of a command, which is built in memory before any of it is written.
 
 ghost use Rattle.std.specs.Prelude.{◌≡◌, ◌+◌, ◌<◌, [], IfOk, IsOk, string_bytes};
 ghost use Rattle.cfgx_engine.specs.Input.{stop_failures, ReadsFront};

@@ -1,4 +1,4 @@
-// An input that is read to its end, up to a limit.
+//! An input that is read to its end, up to a limit.
 ghost use Rattle.std.specs.Prelude.{◌≡◌, ◌+◌, ◌<◌, ◌≤◌, length, take, is_some};
 ghost use Rattle.std.specs.Prelude.{IfSome, IfNone, IsTrue, if◌then◌else◌, ◌↔◌};
 ghost use Rattle.std.specs.Cmp.Rules.{comparing};

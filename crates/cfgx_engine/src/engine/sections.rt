@@ -1,4 +1,4 @@
-// Reads the input of the command `pick` line by line, and makes the output.
+//! Reads the input of the command `pick` line by line, and makes the output.
 
 ghost use Rattle.std.specs.Prelude.{◌≡◌, ◌≤◌, ◌++◌, [], Err, IfErr, IfOk, OnOk, length, map};
 ghost use Rattle.std.specs.Prelude.{IsSomeAnd, string_bytes};

@@ -1,4 +1,4 @@
-// Streams whose failed calls are counted, and the one loop that writes.
+//! Streams whose failed calls are counted, and the one loop that writes.
 
 ghost use Rattle.std.specs.Prelude.{◌≡◌, ℕ, ◌+◌, ◌<◌, List, Option, length, None};
 ghost use Rattle.std.specs.Prelude.{IfSome, IfNone, is_some, if◌then◌else◌};

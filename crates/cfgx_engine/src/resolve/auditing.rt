@@ -1,7 +1,7 @@
-// The values of a condition on many targets, by one evaluation in 64 lanes for each 64 of them.
-//
-// `ask` takes a predicate by value: with the drop in the loop of `ask_all`, the proof would go over
-// all kinds of predicates.
+//! The values of a condition on many targets, by one evaluation in 64 lanes for each 64 of them.
+//!
+//! `ask` takes a predicate by value: with the drop in the loop of `ask_all`, the proof would go over
+//! all kinds of predicates.
 ghost use Rattle.std.specs.Prelude.{◌≡◌, ◌≤◌, length, IfOk, OnOk};
 ghost use Rattle.std.specs.List.{AllZip};
 ghost use Rattle.cfgx_grammar.specs.Answer.{HasOneTree};

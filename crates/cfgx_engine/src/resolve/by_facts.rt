@@ -1,4 +1,4 @@
-// The values of many conditions on many targets that answer by their facts.
+//! The values of many conditions on many targets that answer by their facts.
 ghost use Rattle.std.specs.Prelude.{◌≡◌, ◌≤◌, length, map};
 ghost use Rattle.std.specs.Prelude.{Err, IfErr, IfOk, IfSome, OnOk};
 ghost use Rattle.std.specs.List.{AllByRecursion};

@@ -1,4 +1,4 @@
-// Facts of a target, and what they answer to predicates.
+//! Facts of a target, and what they answer to predicates.
 ghost use Rattle.std.specs.Prelude.{◌≡◌, ◌↔◌, Err, IfErr, IsTrue, OnOk, false};
 ghost use Rattle.std.specs.Cmp.Rules.{comparing};
 ghost use Rattle.std.proofs.Common.{rules};

@@ -1,4 +1,4 @@
-// The predicates that facts name, sorted, so that one is found by halving.
+//! The predicates that facts name, sorted, so that one is found by halving.
 ghost use Rattle.std.specs.Prelude.{◌≡◌, ◌↔◌, ◌++◌, ◌∷◌, [], drop, take, map};
 ghost use Rattle.std.specs.Prelude.{IsTrue, OnOk};
 ghost use Rattle.std.specs.List.{Contains};
