@@ -1,4 +1,5 @@
-"""Values of conditions on targets."""
+"""Values and answers on targets."""
+import itertools
 import pickle
 import unittest
 import unittest.mock
@@ -6,7 +7,7 @@ import unittest.mock
 from . import needs
 
 import cfgx
-from cfgx import _audit
+from cfgx import _facts
 
 LINUX = 'debug_assertions\npanic="unwind"\ntarget_os="linux"\ntarget_thread_local\nunix\n'
 
@@ -37,7 +38,7 @@ class Audits(unittest.TestCase):
     def test_lines_of_a_text(self):
         lines = ['a = "\u2028"', 'b = "\x0b\x1c\x85"']
         facts = f"{lines[0]}\r\n\n\r\n{lines[1]}\n"
-        self.assertEqual(_audit.lines_of(facts), lines)
+        self.assertEqual(_facts.lines_of(facts), lines)
         self.assertEqual(cfgx.audit(lines, [facts]), [[True], [True]])
 
     def test_ends_of_lines(self):
@@ -48,7 +49,7 @@ class Audits(unittest.TestCase):
         ]
         for text, lines in rows:
             with self.subTest(text=text):
-                self.assertEqual(_audit.lines_of(text), lines)
+                self.assertEqual(_facts.lines_of(text), lines)
 
     def test_facts_with_zero_bytes_line_feeds_and_characters(self):
         facts = ['a = "\0"', 'a = "x\ny"', '?a = "日本𝄞"']
@@ -97,6 +98,54 @@ class Audits(unittest.TestCase):
         for conditions, targets in rows:
             with self.subTest(row=(conditions, targets)), self.assertRaises(TypeError):
                 cfgx.audit(conditions, targets)
+
+
+class Answers(unittest.TestCase):
+    """The answers of a target to the predicates of one condition."""
+
+    def test_they_are_the_values_of_the_predicates(self):
+        expression = cfgx.parse(
+            'cfg(any(all(unix, not(windows)), test, loom, unix, a = "\0é", feature = "x",'
+            ' panic = "unwind", not(target_has_atomic = "+08")))'
+        )
+        rows = [
+            LINUX, "", [], ["windows", "?test"], ["?loom", "loom"], ['?a = "\0é"', "unix"],
+            ['all(feature = "x", not(unix))', 'target_has_atomic = "8"'], "?unix\r\n\nloom\n",
+        ]
+        for facts, otherwise in itertools.product(rows, (None, False)):
+            with self.subTest(facts=facts, otherwise=otherwise):
+                texts = map(str, expression.predicates)
+                wanted = [value for value, in cfgx.audit(texts, [facts], otherwise)]
+                answers = expression.answers(facts, otherwise)
+                self.assertEqual(answers, wanted)
+                value = cfgx.audit([expression], [facts], otherwise)[0][0]
+                self.assertIs(expression.eval(answers), value)
+        self.assertEqual(expression.answers(iter(["unix"]))[:3], [False, True, False])
+
+    def test_a_condition_without_predicates(self):
+        self.assertEqual(cfgx.parse("all()").answers(LINUX), [])
+        self.assertEqual(cfgx.parse("cfg(true)").answers([]), [])
+
+    def test_a_faulty_fact(self):
+        rows = [
+            (["all("], 0, "all("), (["unix", "é", "b)"], 1, "é"), ("unix\n\n\nx y\n", 1, "x y"),
+            (["unix", ""], 1, ""),
+        ]
+        for (facts, number, fact), text in itertools.product(rows, ("unix", "all()")):
+            with self.subTest(facts=facts), self.assertRaises(cfgx.FactError) as caught:
+                cfgx.parse(text).answers(facts)
+            self.assertEqual(caught.exception.args, (0, number, fact))
+
+    def test_other_arguments(self):
+        expression = cfgx.parse("unix")
+        with self.assertRaises(ValueError):
+            expression.answers(LINUX, otherwise=True)
+        for facts, otherwise in [(b"unix", None), ([b"unix"], None), (None, None), (1, None),
+                                 ([["unix"]], None), (LINUX, 0), (LINUX, "")]:
+            with self.subTest(facts=facts, otherwise=otherwise), self.assertRaises(TypeError):
+                expression.answers(facts, otherwise)
+        with self.assertRaises(UnicodeEncodeError):
+            expression.answers(["\ud800"])
 
 
 @needs("rustc", untested="the facts of a real rustc")

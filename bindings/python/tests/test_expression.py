@@ -1,6 +1,7 @@
 """Expressions, predicates and errors."""
 import collections
 import copy
+import copyreg
 import dataclasses
 import decimal
 import itertools
@@ -24,6 +25,16 @@ def error_of(text):
     except cfgx.ParseError as error:
         return error
     raise AssertionError(f"{text!r} is a condition")
+
+
+class Forged:
+    """What a pickle makes by these calls."""
+
+    def __init__(self, reduced):
+        self.reduced = tuple(reduced)
+
+    def __reduce__(self):
+        return self.reduced
 
 
 class Asked(dict):
@@ -62,11 +73,73 @@ class Predicates(unittest.TestCase):
             ('target_vendor = "apple"', Kind.VENDOR, "target_vendor", "apple"),
         ]
         self.assertEqual({row[1] for row in rows}, set(Kind))
+        others = {Kind.FLAG: cfgx.flag, Kind.KEY_VALUE: cfgx.key_value}
         for text, kind, key, value in rows:
             with self.subTest(text=text):
                 found, = cfgx.parse(f"cfg({text})").predicates
                 self.assertEqual((found.kind, found.key, found.value), (kind, key, value))
                 self.assertEqual(found.span, (4, 4 + len(text)))
+                make = others.get(kind) or getattr(cfgx, key)
+                words = [key] * (kind in others) + [value] * (value is not None)
+                self.assertEqual({make(*words), Predicate(kind, key, value)}, {found})
+                self.assertEqual(make.__name__, kind.name.lower() if kind in others else key)
+
+    def test_predicates_that_no_text_asks(self):
+        rows = [
+            ((Kind.FEATURE, "featre", "x"), "(<Kind.KEY_VALUE: 2>, 'featre', 'x')"),
+            ((Kind.FLAG, "test"), "(<Kind.TEST: 3>, 'test', None)"),
+            ((Kind.FLAG, "unix"), "(<Kind.FAMILY: 12>, 'target_family', 'unix')"),
+            ((Kind.FAMILY, "unix"), "(<Kind.FAMILY: 12>, 'target_family', 'unix')"),
+            ((Kind.FLAG, "true"), "nothing"), ((Kind.FLAG, "all()"), "nothing"),
+            ((Kind.FLAG, "a "), "(<Kind.FLAG: 1>, 'a', None)"),
+            ((Kind.FLAG, "a,"), "(<Kind.FLAG: 1>, 'a', None)"),
+            ((Kind.FLAG, "cfg(a)"), "(<Kind.FLAG: 1>, 'a', None)"),
+            ((Kind.FLAG, "any(a, b)"),
+             "(<Kind.FLAG: 1>, 'a', None) and (<Kind.FLAG: 1>, 'b', None)"),
+            ((Kind.FLAG, "a", "b"), "(<Kind.KEY_VALUE: 2>, 'a', 'b')"),
+            ((Kind.KEY_VALUE, "a"), "(<Kind.FLAG: 1>, 'a', None)"),
+            ((Kind.KEY_VALUE, 'a = "b"'), "(<Kind.KEY_VALUE: 2>, 'a', 'b')"),
+            ((Kind.KEY_VALUE, "a", 5), "(<Kind.KEY_VALUE: 2>, 'a', '5')"),
+            ((6, "feature", "x"), "(<Kind.FEATURE: 6>, 'feature', 'x')"),
+            ((Kind.POINTER_WIDTH, "target_pointer_width", "064"),
+             "(<Kind.POINTER_WIDTH: 16>, 'target_pointer_width', '64')"),
+            ((Kind.HAS_ATOMIC, "target_has_atomic", "+8"),
+             "(<Kind.HAS_ATOMIC: 13>, 'target_has_atomic', '8')"),
+        ]
+        for given, asked in rows:
+            with self.subTest(given=given), self.assertRaises(ValueError) as caught:
+                Predicate(*given)
+            self.assertRegex(str(caught.exception), r"^no text asks \(.*\): ['\"].*['\"] asks ")
+            self.assertTrue(str(caught.exception).endswith(f" asks {asked}"), caught.exception)
+
+    def test_predicates_whose_text_is_faulty(self):
+        rows = [
+            (cfgx.flag, ""), (cfgx.flag, "é"), (cfgx.flag, "8"), (cfgx.flag, "a b"),
+            (cfgx.flag, "not"), (cfgx.flag, "feature"), (cfgx.flag, "target_os"),
+            (cfgx.flag, "a-b"), (cfgx.key_value, "all", "x"),
+            (cfgx.key_value, "test", "x"), (cfgx.key_value, "true", "x"),
+            (cfgx.key_value, "target_foo", "x"), (cfgx.key_value, "a", '"'),
+            (cfgx.key_value, "a", 'x", b = "y'), (cfgx.target_feature, ""),
+            (cfgx.target_endian, "middle"), (cfgx.target_pointer_width, "256"),
+            (cfgx.target_has_atomic, "pointer"), (Predicate, Kind.FEATURE, "feature"),
+        ]
+        for make, *words in rows:
+            with self.subTest(words=words), self.assertRaises(cfgx.ParseError):
+                make(*words)
+        with self.assertRaises(UnicodeEncodeError):
+            cfgx.feature("\ud800")
+
+    def test_copies(self):
+        for predicate in cfgx.parse('cfg(any(test, a = "é", unix))').predicates:
+            protocols = range(pickle.HIGHEST_PROTOCOL + 1)
+            kept = [pickle.loads(pickle.dumps(predicate, protocol)) for protocol in protocols]
+            for other in (*kept, copy.copy(predicate), copy.deepcopy(predicate)):
+                self.assertEqual(vars(other), vars(predicate))
+        kept = pickle.dumps(cfgx.flag("loom"))
+        self.assertEqual(pickle.loads(kept.replace(b"loom", b"mool")), cfgx.flag("mool"))
+        for key in (b"test", b"a, b", b"true"):
+            with self.subTest(key=key), self.assertRaises(ValueError):
+                pickle.loads(kept.replace(b"loom", key))
 
     def test_spans_count_characters(self):
         text = 'cfg(all(e = "日本𝄞", not(any(test\u3000, feature\u2028=\xa0"ü")),a , unix))'
@@ -136,6 +209,30 @@ class Expressions(unittest.TestCase):
         with self.assertRaises(cfgx.ParseError):
             pickle.loads(kept.replace(b"unix", b"all("))
 
+    def test_a_forged_pickle(self):
+        expression = cfgx.Expression
+        state = None, {"_text": "all(", "_encoded": b"all(", "_predicates": ()}
+        empty = copyreg._reconstructor, (expression, object, None)
+        rows = [
+            (TypeError, copyreg.__newobj__, (expression,)),
+            (TypeError, copyreg.__newobj__, (expression,), state),
+            (TypeError, *empty, state), (TypeError, *empty, {}),
+            (TypeError, expression, ("unix",), state), (TypeError, expression, (b"unix",)),
+            (cfgx.ParseError, expression, ("all(",)),
+            (cfgx.ParseError, copyreg.__newobj__, (expression, "all(")),
+        ]
+        for wanted, *reduced in rows:
+            forged = pickle.dumps(Forged(reduced), 0)
+            with self.subTest(reduced=reduced), self.assertRaises(wanted):
+                pickle.loads(forged)
+        # Of what has no text, nothing is said.
+        found = pickle.loads(pickle.dumps(Forged(empty)))
+        for call in (str, repr, hash, expression.text.fget, expression.predicates.fget,
+                     lambda one: one.eval([]), lambda one: one.decide({}),
+                     lambda one: one.answers([]), copy.copy):
+            with self.subTest(call=call), self.assertRaises(AttributeError):
+                call(found)
+
     def test_a_callable_is_asked_in_order(self):
         asked = []
         cfgx.parse("all(a, any(b, not(a)), true)").eval(asked.append)
@@ -149,7 +246,7 @@ class Expressions(unittest.TestCase):
             known, known.get, collections.OrderedDict(known), [False, True, None],
             (False, True, None), iter([False, True, None]), collections.ChainMap({}, known),
             Asked(known), collections.defaultdict(int, known),
-            {**known, Predicate(Kind.FEATURE, "featre", "x"): True},
+            {**known, cfgx.feature("y"): True, cfgx.key_value("featre", "x"): True},
         ]
         for answers in forms:
             with self.subTest(answers=answers):

@@ -53,6 +53,7 @@ def declared(kind):
         "char *": _library.BYTES, "uint8_t *": _library.BYTES,
         "struct cfgx_fault *": ctypes.POINTER(_library.Fault),
         "struct cfgx_predicate *": ctypes.POINTER(_library.Described),
+        "const struct cfgx_step *": _library.STEPS, "struct cfgx_step *": _library.STEPS,
     }
     return {**scalars, **pointers}[kind]
 
@@ -90,7 +91,10 @@ class Header(unittest.TestCase):
 
     def test_structs(self):
         types = {ctypes.c_size_t: "size_t", ctypes.c_uint32: "uint32_t"}
-        for name, struct in [("fault", _library.Fault), ("predicate", _library.Described)]:
+        structs = [
+            ("fault", _library.Fault), ("predicate", _library.Described), ("step", _library.Step),
+        ]
+        for name, struct in structs:
             body = re.search(rf"^struct cfgx_{name} \{{$(.*?)^\}};$", header(), re.M | re.S)[1]
             fields = re.findall(r"^ +(\w+) (\w+);$", body, re.MULTILINE)
             found = [(types[kind], field) for field, kind in struct._fields_]
@@ -127,6 +131,8 @@ class Finding(unittest.TestCase):
         line = run.stderr.decode().splitlines()[-1]
         begin = "ImportError: cfgx cannot load /nowhere/libcfgx.so.2.2 ("
         self.assertTrue(line.startswith(begin), line)
+        folder = os.path.realpath(os.path.join(PACKAGE, "cfgx"))
+        self.assertIn(f", and put it into {folder} or where the loader looks, or ", line)
         self.assertTrue(line.endswith("let CFGX_LIBRARY name the file libcfgx.so.2.2"), line)
 
     def test_another_library(self):
@@ -200,12 +206,60 @@ class Refusing:
     LIBRARY = _library.LIBRARY
 
 
+class Counting:
+    """The library, which counts its calls."""
+
+    def __init__(self):
+        self.names = []
+
+    def __getattr__(self, name):
+        self.names.append(name)
+        return getattr(Refusing.LIBRARY, name)
+
+
+class Calls(unittest.TestCase):
+    """Which calls are made."""
+
+    def calls(self, call, *arguments):
+        """Returns the names of the calls of the library that a call of the package makes."""
+        counting = Counting()
+        with unittest.mock.patch.object(_library, "LIBRARY", counting):
+            try:
+                call(*arguments)
+            except ValueError:
+                pass
+        return [name.replace("cfgx_", "") for name in counting.names]
+
+    def test_a_text_is_parsed_once(self):
+        room = _library.ROOM
+        for members, count in [(0, 1), (1, 1), (room - 1, 1), (room, 2), (9 * room, 2)]:
+            for member in ("a,", "true,"):
+                text = f"all({members * member})"
+                with self.subTest(text=text):
+                    self.assertEqual(self.calls(cfgx.parse, text), ["compile"] * count)
+        self.assertEqual(self.calls(cfgx.parse, "all("), ["compile", "check", "explain"])
+        self.assertEqual(self.calls(cfgx.feature, "x"), ["compile"])
+
+    def test_values_are_those_of_steps(self):
+        expression = cfgx.parse("any(a, b)")
+        self.assertEqual(self.calls(expression.eval, [None, False]), ["apply"])
+        self.assertEqual(self.calls(expression.decide, [None, True]), ["apply"])
+        self.assertEqual(self.calls(expression.decide, [None, False]), ["apply", "decide"])
+
+    def test_answers(self):
+        expression = cfgx.parse("any(a, b)")
+        self.assertEqual(self.calls(expression.answers, ["unix"]), ["answers"])
+        self.assertEqual(self.calls(expression.answers, ["all("]), ["answers", "audit"])
+
+
 class Memory(unittest.TestCase):
     """What happens without memory."""
 
     @needs("/proc/self/statm", untested="calls with little memory")
     def test_memory_that_is_refused(self):
-        run = python(WITH_LITTLE_MEMORY, CFGX_LIBRARY=_library.path_of())
+        # So what the parser returns to malloc goes back to the system.
+        threshold = {"MALLOC_MMAP_THRESHOLD_": "100000"}
+        run = python(WITH_LITTLE_MEMORY, CFGX_LIBRARY=_library.path_of(), **threshold)
         self.assertEqual(run.stdout.decode(), "cfgx got no memory\n" * 2, run.stderr)
 
     def test_statuses(self):
@@ -221,10 +275,14 @@ class Memory(unittest.TestCase):
     def test_each_call(self):
         expression = cfgx.parse("all(a, b)")
         rows = [
-            ("cfgx_predicates", lambda: cfgx.parse("a")),
+            ("cfgx_compile", lambda: cfgx.parse("a")),
+            ("cfgx_compile", lambda: cfgx.flag("a")),
             ("cfgx_check", lambda: cfgx.parse("all(")),
             ("cfgx_explain", lambda: cfgx.parse("all(")),
-            ("cfgx_value", lambda: expression.eval([True, None])),
+            ("cfgx_apply", lambda: expression.eval([True, None])),
+            ("cfgx_apply", lambda: expression.decide([True, None])),
+            ("cfgx_answers", lambda: expression.answers(["b"])),
+            ("cfgx_audit", lambda: expression.answers(["all("])),
             ("cfgx_decide", lambda: expression.decide([True, None])),
             ("cfgx_audit", lambda: cfgx.audit(["a"], [["b"]])),
             ("cfgx_check", lambda: cfgx.audit(["all("], [["b"]])),
@@ -253,10 +311,13 @@ class Project(unittest.TestCase):
             line, = re.findall(rf"^{name} = (.*)$", file.read(), re.MULTILINE)
         return re.findall(r'"(.*?)"', line)
 
-    def test_its_version_is_that_of_the_calls(self):
-        numbers = numbers_of("VERSION")
-        version = ".".join(str(numbers[part]) for part in ("LANGUAGE", "MAJOR", "MINOR"))
-        self.assertEqual(self.fields("version"), [version])
+    def test_its_version(self):
+        """The first number is that of the language, as for the calls."""
+        self.assertEqual(self.fields("version"), ["cfgx.__version__"])
+        self.assertRegex(cfgx.__version__, rf"^{numbers_of('VERSION')['LANGUAGE']}\.\d+\.\d+$")
+        with open(os.path.join(ROOT, "CHANGELOG.md"), encoding="utf-8") as page:
+            text = " ".join(page.read().split())
+        self.assertIn(f" the Python package is {cfgx.__version__}.", text)
 
     def test_its_files(self):
         numbers = numbers_of("VERSION")

@@ -13,9 +13,10 @@ MANIFESTS_PAGE = os.path.join(ROOT, "docs", "MANIFESTS.md")
 
 # What has examples.
 SHOWN = {
-    "PYTHON.md", "cfgx", "cfgx.Expression.decide", "cfgx.Expression.eval", "cfgx.FactError",
-    "cfgx.Expression.original", "cfgx.Expression.predicates", "cfgx.ParseError", "cfgx.Predicate",
-    "cfgx.audit", "cfgx.parse",
+    "PYTHON.md", "cfgx", "cfgx.Expression.answers", "cfgx.Expression.decide",
+    "cfgx.Expression.eval", "cfgx.Expression.original", "cfgx.Expression.predicates",
+    "cfgx.FactError", "cfgx.ParseError", "cfgx.Predicate", "cfgx.audit", "cfgx.flag",
+    "cfgx.key_value", "cfgx.parse",
 }
 
 

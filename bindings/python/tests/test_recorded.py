@@ -177,6 +177,9 @@ class Recorded(unittest.TestCase):
                 conditions.append(condition)
                 targets.append(facts)
                 values.append(PRINTED[rows.unescaped(output)])
+        for condition, facts, value in zip(conditions, targets, values):
+            expression = cfgx.parse(condition)
+            self.assertIs(expression.eval(expression.answers(facts, otherwise=False)), value)
         table = cfgx.audit(conditions, targets, otherwise=False)
         self.assertEqual([row[number] for number, row in enumerate(table)], values)
         self.assertGreater(len(values), 30)

@@ -3,10 +3,10 @@ import dataclasses
 import enum
 import re
 from collections.abc import Mapping as AbstractMapping
-from typing import Any, Callable, Iterable, List, Mapping, NamedTuple, Optional, Tuple, Union
+from typing import Any, Callable, Dict, Iterable, List, Mapping, NamedTuple, Optional, Tuple, Union
 
-from . import _library
-from ._error import parse_error
+from . import _facts, _library
+from ._error import FactError, parse_error
 
 
 class Kind(enum.Enum):
@@ -63,14 +63,20 @@ NUMBERED = {kind.value: (kind, KEYS.get(kind)) for kind in Kind}
 @dataclasses.dataclass(frozen=True)
 class Predicate:
     """A predicate of a condition. Two are equal if they ask the same, wherever they stand, so a
-    predicate serves as a key of a mapping.
+    predicate serves as a key of a mapping. `flag`, `key_value`, and the functions with the names of
+    the other keys, such as `feature` and `target_os`, make one.
+
+    Raises `ValueError` if no text asks such a predicate.
 
     >>> import cfgx
     >>> first, second = cfgx.parse('all(unix, target_family = "unix")').predicates
     >>> first == second, first.span, second.span
     (True, (4, 8), (10, 32))
-    >>> first == cfgx.Predicate(cfgx.Kind.FAMILY, "target_family", "unix")
+    >>> first == cfgx.target_family("unix")
     True
+    >>> cfgx.flag("true")
+    Traceback (most recent call last):
+    ValueError: no text asks (<Kind.FLAG: 1>, 'true', None): 'true' asks nothing
     """
 
     kind: Kind
@@ -84,6 +90,18 @@ class Predicate:
     span: Tuple[int, int] = dataclasses.field(default=(0, 0), compare=False)
     """The characters of the predicate in the text that was passed, from the key to the last quote:
     from the first number up to but not including the second. A caller may leave it out."""
+
+    def __post_init__(self) -> None:
+        """Compares the predicate with what its text asks."""
+        wanted = self.kind, self.key, self.value
+        found = [(one.kind, one.key, one.value) for one in parse(str(self)).predicates]
+        if found != [wanted]:
+            asked = " and ".join(map(str, found)) or "nothing"
+            raise ValueError(f"no text asks {wanted}: {str(self)!r} asks {asked}")
+
+    def __setstate__(self, state: Dict[str, Any]) -> None:
+        """Checks what is unpickled, as a new predicate."""
+        Predicate.__init__(self, **state)
 
     def __str__(self) -> str:
         return self.key if self.value is None else f'{self.key} = "{self.value}"'
@@ -112,11 +130,11 @@ class Expression:
     Two expressions are equal if their texts are equal, without an outer `cfg( )`: `key` and `key,`
     are not. `str` returns this text.
 
-    `answers` of the calls below is
+    The parameter `answers` of `eval` and `decide` is
 
     - a mapping from predicates to answers, even one that can be called. A predicate that is not in
-      it is unknown. One that the condition does not ask is passed over, so nothing tells that its
-      key is misspelt;
+      it is unknown. One that the condition does not ask is passed over, so nothing tells that a
+      flag or a value is misspelt;
     - or a callable, which is called with each occurrence of a predicate once, in the order of
       `predicates`, and returns its answer;
     - or a list with one answer for each of `predicates`, in order.
@@ -125,20 +143,27 @@ class Expression:
     and 1. A list of another length raises `ValueError`.
     """
 
-    __slots__ = ("_text", "_encoded", "_predicates")
+    __slots__ = ("_text", "_encoded", "_steps", "_predicates")
 
-    def __init__(self, text: str) -> None:
+    _text: str
+    _encoded: bytes
+    _steps: Any
+    _predicates: Tuple[Predicate, ...]
+
+    def __new__(cls, text: str) -> "Expression":
         """Parses a text, as `parse` does."""
-        self._text = text
-        self._encoded = _library.utf8_of(text)
-        found = _library.predicates(self._encoded)
+        encoded = _library.utf8_of(text)
+        found = _library.compiled(encoded)
         if found is None:
-            raise parse_error(text, self._encoded)
+            raise parse_error(text, encoded)
+        self = super().__new__(cls)
+        self._text, self._encoded = text, encoded
+        self._steps, described = found
         spans = spans_of(text)
         self._predicates = tuple(
-            predicate_of(self._encoded, described, spans[number])
-            for number, described in enumerate(found)
+            predicate_of(encoded, one, spans[number]) for number, one in enumerate(described)
         )
+        return self
 
     @property
     def text(self) -> str:
@@ -180,7 +205,7 @@ class Expression:
         >>> expression.eval([None, True])
         True
         """
-        return _library.value(self._encoded, self._answered(answers))
+        return _library.value(self._steps, self._answered(answers))
 
     def decide(self, answers: Answers) -> Decision:
         """Returns the value over these answers and, if it depends on the unknown ones, answers with
@@ -193,10 +218,35 @@ class Expression:
         Decision(value=False, if_true=None, if_false=None)
         """
         given = self._answered(answers)
-        value, fillings = _library.decide(self._encoded, given)
+        value = _library.value(self._steps, given)
         if value is not None:
             return Decision(value, None, None)
-        return Decision(None, fillings[:len(given)], fillings[len(given):])
+        return Decision(None, *_library.fillings(self._encoded, given))
+
+    def answers(
+        self, facts: _facts.Facts, otherwise: Optional[bool] = None
+    ) -> List[Optional[bool]]:
+        """Returns the answers of a target to `predicates`, in order, for `eval` and `decide`. The
+        facts of the target, and `otherwise`, are those of `audit`.
+
+        Raises `FactError` for the first faulty fact, and names 0 as its target; and for another
+        `otherwise` what `audit` raises.
+
+        >>> import cfgx
+        >>> expression = cfgx.parse('all(unix, not(test), feature = "x")')
+        >>> [str(predicate) for predicate in expression.predicates]
+        ['test', 'target_family = "unix"', 'feature = "x"']
+        >>> expression.answers(["unix", '?feature = "x"'], otherwise=False)
+        [False, True, None]
+        """
+        number, listed = _facts.number_of(otherwise), _facts.listed(facts)
+        encoded = [_library.utf8_of(fact) for fact in listed]
+        found = _library.answers(self._encoded, len(self._predicates), encoded, number)
+        if found is None:
+            # The call says that a fact is faulty, and that for tables says which.
+            _, place, _ = _library.audit([], encoded, [len(encoded)], number)
+            raise FactError(0, place, listed[place])
+        return found
 
     def _answered(self, answers: Answers) -> bytes:
         """Returns the number of the answer to each predicate."""
@@ -218,6 +268,10 @@ class Expression:
     def __reduce__(self) -> Tuple[Any, ...]:
         """What `pickle` and `copy` keep is the text, which is parsed again."""
         return type(self), (self._text,)
+
+    def __setstate__(self, state: Any) -> None:
+        """Refuses to be changed by a pickle."""
+        raise TypeError("an Expression is made of a text, and has no other state")
 
     def __str__(self) -> str:
         return self.original
@@ -257,7 +311,7 @@ def stripped(text: str) -> Tuple[int, int]:
 
 
 def predicate_of(encoded: bytes, described: _library.Described, span: Tuple[int, int]) -> Predicate:
-    """Returns the predicate at a span, as the engine describes it."""
+    """Returns the predicate at a span, as the engine describes it. So it is not checked."""
     kind, key = NUMBERED[described.kind]
     if key is None:
         key = encoded[described.key_start:described.key_end].decode()
@@ -265,7 +319,9 @@ def predicate_of(encoded: bytes, described: _library.Described, span: Tuple[int,
         value: Optional[str] = encoded[described.value_start:described.value_end].decode()
     else:
         value = numbered_value(kind, described.number)
-    return Predicate(kind, key, value, span)
+    predicate = object.__new__(Predicate)
+    vars(predicate).update(kind=kind, key=key, value=value, span=span)
+    return predicate
 
 
 def numbered_value(kind: Kind, number: int) -> Optional[str]:

@@ -3,11 +3,13 @@
 No pointer is null: `ctypes` passes an address also for an array or `bytes` without items.
 """
 import ctypes
+import itertools
 import os
 from ctypes import POINTER, c_char_p, c_size_t, c_uint8, c_uint32
 from typing import Any, Callable, List, Optional, Sequence, Tuple
 
 NAME = "libcfgx.so.2.2"
+FOLDER = os.path.dirname(os.path.abspath(__file__))
 LANGUAGE, MAJOR, MINOR = 2, 2, 0
 
 # The statuses that calls return.
@@ -37,17 +39,27 @@ class Described(ctypes.Structure):
     ]
 
 
+class Step(ctypes.Structure):
+    """The struct cfgx_step."""
+    _fields_ = [("kind", c_uint32), ("count", c_size_t)]
+
+
+# The steps and the predicates for which the first call has room. Most conditions have fewer.
+ROOM = 32
+
 BYTES = POINTER(c_uint8)
 SIZES = POINTER(c_size_t)
+STEPS = POINTER(Step)
 TEXT = (c_char_p, c_size_t)
 LIST = (c_char_p, c_size_t, SIZES, c_size_t)
 ARGUMENTS = {
     "cfgx_version": (),
     "cfgx_check": (*TEXT, POINTER(Fault)),
     "cfgx_explain": (*TEXT, BYTES, c_size_t, SIZES),
-    "cfgx_predicates": (*TEXT, POINTER(Described), c_size_t, SIZES),
-    "cfgx_value": (*TEXT, c_char_p, c_size_t, BYTES),
     "cfgx_decide": (*TEXT, c_char_p, c_size_t, BYTES, c_size_t, SIZES, BYTES),
+    "cfgx_answers": (*TEXT, *LIST, c_uint8, BYTES, c_size_t, SIZES),
+    "cfgx_compile": (*TEXT, STEPS, c_size_t, SIZES, POINTER(Described), c_size_t, SIZES),
+    "cfgx_apply": (STEPS, c_size_t, c_char_p, c_size_t, BYTES),
     "cfgx_audit": (*LIST, *LIST, SIZES, c_size_t, c_uint8, BYTES, c_size_t, SIZES, SIZES),
 }
 
@@ -62,7 +74,7 @@ def path_of() -> str:
     named = os.environ.get("CFGX_LIBRARY")
     if named:
         return os.path.abspath(named)
-    beside = os.path.join(os.path.dirname(os.path.abspath(__file__)), NAME)
+    beside = os.path.join(FOLDER, NAME)
     return beside if os.path.exists(beside) else NAME
 
 
@@ -82,7 +94,8 @@ def load(path: str) -> Any:
     except (OSError, AttributeError) as error:
         raise import_error(
             f"cfgx cannot load {path} ({error}): install the library by crates/cfgx_c/install of"
-            f" its repository, and let CFGX_LIBRARY name the file {NAME}"
+            f" its repository, and put it into {FOLDER} or where the loader looks, or let"
+            f" CFGX_LIBRARY name the file {NAME}"
         ) from error
     language, major, minor = parts_of(library.cfgx_version())
     if (language, major) != (LANGUAGE, MAJOR) or minor < MINOR:
@@ -156,43 +169,65 @@ def explain(text: bytes) -> bytes:
     return bytes(message)
 
 
-def predicates(text: bytes) -> Optional[List[Described]]:
-    """Returns the predicates of a condition, or `None` if the text is faulty."""
-    status, found = filled(
-        Described, 8, lambda *buffer: LIBRARY.cfgx_predicates(text, len(text), *buffer)
-    )
+def compiled(text: bytes) -> Optional[Tuple[Any, List[Described]]]:
+    """Returns the steps and the predicates of a condition, or `None` if the text is faulty."""
+    steps, predicates = (Step * ROOM)(), (Described * ROOM)()
+    step_count, count = c_size_t(), c_size_t()
+
+    def call() -> int:
+        return LIBRARY.cfgx_compile(
+            text, len(text), steps, len(steps), step_count, predicates, len(predicates), count
+        )
+
+    status = call()
+    if step_count.value > ROOM or count.value > ROOM:
+        steps, predicates = (Step * step_count.value)(), (Described * count.value)()
+        status = call()
     if status == FAULTY:
         return None
     expect_done(status)
-    return found
+    return (Step * step_count.value).from_buffer_copy(steps), predicates[:count.value]
 
 
-def value(text: bytes, answers: bytes) -> Optional[bool]:
-    """Returns the value of a condition over the numbers of as many answers as it has predicates."""
+def value(steps: Any, answers: bytes) -> Optional[bool]:
+    """Returns the value of the steps of a condition over the numbers of as many answers as it has
+    predicates."""
     found = c_uint8()
-    expect_done(LIBRARY.cfgx_value(text, len(text), answers, len(answers), found))
+    expect_done(LIBRARY.cfgx_apply(steps, len(steps), answers, len(answers), found))
     return VALUES[found.value]
 
 
-def decide(text: bytes, answers: bytes) -> Tuple[Optional[bool], List[bool]]:
-    """Returns the value of a condition over the numbers of as many answers as it has predicates,
-    and the two fillings, one behind the other. There are none if the value is known."""
-    found, count = c_uint8(), len(answers)
-    status, fillings = filled(
+def fillings(text: bytes, answers: bytes) -> Tuple[List[bool], List[bool]]:
+    """Returns the fillings of a condition that is unknown over the numbers of as many answers as it
+    has predicates: answers with which it is true, and answers with which it is false."""
+    count = len(answers)
+    status, both = filled(
         c_uint8, 2 * count,
-        lambda *buffer: LIBRARY.cfgx_decide(text, len(text), answers, count, *buffer, found),
+        lambda *buffer: LIBRARY.cfgx_decide(text, len(text), answers, count, *buffer, c_uint8()),
     )
     expect_done(status)
-    return VALUES[found.value], [bool(number) for number in fillings]
+    found = list(map(bool, both))
+    return found[:count], found[count:]
 
 
 def list_of(texts: Sequence[bytes]) -> Tuple[bytes, int, Any, int]:
     """Returns a list of texts as a call takes it."""
-    ends, length = (c_size_t * len(texts))(), 0
-    for number, text in enumerate(texts):
-        length += len(text)
-        ends[number] = length
-    return b"".join(texts), length, ends, len(texts)
+    ends = (c_size_t * len(texts))(*itertools.accumulate(map(len, texts)))
+    joined = b"".join(texts)
+    return joined, len(joined), ends, len(ends)
+
+
+def answers(
+    text: bytes, count: int, facts: Sequence[bytes], otherwise: int
+) -> Optional[List[Optional[bool]]]:
+    """Returns the answers of facts to the predicates of a condition, of which there are `count`, or
+    `None` if a fact is faulty."""
+    given = (text, len(text), *list_of(facts), otherwise)
+    status, found = filled(c_uint8, count, lambda *buffer: LIBRARY.cfgx_answers(*given, *buffer))
+    if status == FAULTY_FACT:
+        return None
+    expect_done(status)
+    return [VALUES[number] for number in found]
 
 
 def audit(

@@ -6,9 +6,9 @@ import shutil
 import subprocess
 from typing import Any, Dict, Iterator, List, NamedTuple, Optional, Sequence, Tuple
 
-from ._audit import audit, rustc_lines
 from ._error import ParseError, RustcError
 from ._expression import Expression, Kind, Predicate, parse, stripped
+from ._facts import rustc_lines
 
 # The tables of dependencies and the kind of those in each, in the order in which Cargo lists those
 # of a package, and those of a target.
@@ -215,11 +215,10 @@ def tried(expression: Expression, answers: List[Optional[bool]]) -> Tuple[Option
 def answers_on(expression: Expression, target: Target) -> List[Optional[bool]]:
     """Returns the answers of Cargo to the predicates of a condition on a target. What `rustc` does
     not print is unknown if RUSTFLAGS may set it by `--cfg`, and otherwise false."""
-    predicates = expression.predicates
-    named = audit(map(str, predicates), [target.facts])
+    named = zip(expression.predicates, expression.answers(target.facts))
     return [
         False if is_false(predicate, expression.text, answer) else answer
-        for predicate, (answer,) in zip(predicates, named)
+        for predicate, answer in named
     ]
 
 
