@@ -187,7 +187,12 @@ impl<A: SmallAllocator> Facts<A> {
     pub fn answer(&self, predicate: &Predicate<'_>, otherwise: Otherwise) -> Option<bool>
         ensures { IsAnswer self.now otherwise (question_of predicate.now) result }
     {
-        self.answer_to(&Parts::of(predicate), unnamed_answer(predicate, otherwise))
+        let unnamed = unnamed_answer(predicate, otherwise);
+        // This test costs less than taking the predicate apart.
+        if self.true_names.is_empty() && self.unknown_names.is_empty() {
+            return unnamed;
+        }
+        self.answer_to(&Parts::of(predicate), unnamed)
     }
 
     /// Returns the answer of the facts to the predicate with the parts `asked`, which is `unnamed`

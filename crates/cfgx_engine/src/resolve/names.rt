@@ -128,7 +128,11 @@ impl Named {
         let texts = behind(buffer, self.start);
         let key = front(texts, self.key_len);
         let value = front(behind(texts, self.key_len), self.value_len);
-        key.cmp(&other.key).then(value.cmp(&other.value))
+        let keys = key.cmp(&other.key);
+        if keys.is_ne() {
+            return keys;
+        }
+        value.cmp(&other.value)
     }
 }
 
@@ -182,6 +186,13 @@ impl<A: Allocator> Names<A> {
         }
     }
 
+    /// Whether nothing was added.
+    pub(super) fn is_empty(&self) -> bool
+        ensures { IsTrue result ↔ (self.now ≡ []) }
+    {
+        self.named.is_empty()
+    }
+
     /// Adds predicates, and copies their texts.
     pub(super) fn add(&mut self, predicates: Predicates<'_>) -> Result<(), AllocError>
         ensures { OnOk result
@@ -229,7 +240,7 @@ impl<A: Allocator> Names<A> {
         requires { IsSorted code_cmp self.now }
         ensures { IsTrue result ↔ Contains self.now (code asked.now) }
     {
-        !self.named.is_empty() && self.finds(asked)
+        !self.is_empty() && self.finds(asked)
     }
 
     /// Searches the predicate with the parts `asked` among those that are sorted, by halving.
