@@ -97,6 +97,8 @@ pub(crate) fn text_error(number: usize, failure: Failure) -> ReadError
 /// Reads the only text of a call.
 ///
 /// The error is the status of the call.
+// A call would copy the condition out of its result.
+#[inline(always)]
 pub(crate) fn read_condition<'r, 'a>(
     reader: &'r mut ConditionReader<'a>,
     text: &'a str,
