@@ -22,7 +22,7 @@ abbrev pub endian_number : Endian → ℕ
 endian_number endian.big = 0
 endian_number endian.little = 1
 
--- the number of bits of an atomic; the width of a pointer has a number above all of these
+-- the number of bits of an atomic; the width `ptr` has a number above all of these
 abbrev pub atomic_number : HasAtomic → ℕ
 atomic_number (atomic.IntegerSize bits) = bits
 atomic_number atomic.Pointer = 65536
@@ -34,7 +34,7 @@ target_number (TargetQuestion.has_atomic width) = atomic_number width
 target_number (TargetQuestion.pointer_width width) = width
 target_number _ = 0
 
--- the number of a predicate, and 0 if it is not on the target
+-- the number of a predicate, and 0 if it is no `Question.target`
 abbrev pub number_of : Question → ℕ
 number_of (Question.target question) = target_number question
 number_of _ = 0
@@ -132,9 +132,9 @@ abbrev mutual
   each_in_text_order Trees.none = []
   each_in_text_order (Trees.more tree trees) = in_text_order tree ++ each_in_text_order trees
 
--- The predicates are what the text's one tree asks, in this order, each where it stands. `located`
--- is a tree of the same shape, whose predicates have the same kinds. It asks the predicates, and
--- they were read from the tokens of the text.
+-- The predicates are what the text's one tree asks, in the order of asking, where they stand.
+-- `located` is a tree of the same shape, whose predicates have the same kinds. It asks the
+-- predicates, and they were read from the tokens of the text.
 pub record AreLocated (text : List ℕ) (predicates : List LocatedPredicate) : Type 0 where
   pub one : HasOneTree text
   pub each : AllZip (Locates text) (asked one.tree) predicates

@@ -43,6 +43,7 @@ pub use steps::{Step, StepsError, eval_steps, steps_of};
 /// A parsed condition. Contracts see it as its stripped text.
 #[derive(Drop)]
 pub struct Expression<A: Allocator = Global> {
+    /// The stripped text; the name is that of `cfg-expr`
     original: String<A>,
     /// In source order
     nodes: SmallVec<ExprNode, 5, A>,

@@ -227,8 +227,11 @@ RefusesWith-facts text facts (error.FaultyFact number) good fails = record {
   of_fact = λ is. (good, fails.0, fails.2);
   fails = search rules;
 }
-RefusesWith-facts text facts error.Memory good fails =
-    record { of_text = search rules; of_fact = λ is. absurd (omega (arith, is)); fails = search rules }
+RefusesWith-facts text facts error.Memory good fails = record {
+  of_text = search rules;
+  of_fact = λ is. absurd (omega (arith, is));
+  fails = search rules;
+}
 
 -- and of several texts, if the texts are conditions
 pub FailsFor-facts : (texts facts : List (List ℕ)) (failed : ReadError) → All IsCondition texts

@@ -22,7 +22,7 @@ lines_of input = map strip_carriage_return (slice_split (λ byte. byte == 10) in
 -- a line, cut at its first tab
 pub data Line : Type 0 where
   empty : Line
-  -- there is no tab in it
+  -- it has bytes, but no tab
   undivided : Line
   -- a section's name and its condition, with the first tab between them
   section : List ℕ → List ℕ → Line

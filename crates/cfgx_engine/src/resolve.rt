@@ -126,7 +126,7 @@ pub struct Decider<A: SmallAllocator = Global> {
     /// What the target answered to each predicate of the last condition, in order. Empty if the
     /// last call failed
     pub answers: Vec<Option<bool>, A>,
-    /// What the answers to the last condition that was decided decide
+    /// The decision on the last condition that was decided
     pub decision: Decision<A>,
 }
 
@@ -228,7 +228,7 @@ pub fn pick<A: SmallAllocator, M: TargetMatcher>(
 /// Returns the verdict on a condition for each target, in order. It is the verdict of `pick` on a
 /// section with this condition.
 ///
-/// Targets are taken in pieces of 64. Each predicate is asked once of each target, and the
+/// Targets are taken in pieces of 64. Each predicate on the target is asked once of each, and the
 /// condition is evaluated once for each piece.
 ///
 /// # Errors

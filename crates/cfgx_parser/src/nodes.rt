@@ -151,17 +151,17 @@ pub(crate) struct Mark {
 /// The number of bytes of a text for which one node is expected.
 const BYTES_PER_NODE: usize = 8;
 
-/// The smallest capacity for nodes that is reserved on the heap.
+/// The fewest nodes for which room is added when a text first outgrows the room there is.
 const MIN_CAPACITY: usize = 3;
 
-/// The most nodes that are reserved for the length of a text. They take 140 KiB: a block of that
-/// size grows where it stands, and is not copied.
+/// The most nodes for which room is added then. They take 168 KiB: a block of that size grows where
+/// it stands, and is not copied.
 const MAX_CAPACITY: usize = 3584;
 
 /// The capacity that `move_to_heap` reserves for each vector.
 pub(crate) const KEPT_CAPACITY: usize = 8;
 
-/// Returns the capacity to reserve for the nodes of a text of `len` bytes.
+/// Returns for how many more nodes room is added in a text of `len` bytes.
 fn capacity_for(len: usize) -> usize {
     (len / BYTES_PER_NODE).max(MIN_CAPACITY).min(MAX_CAPACITY)
 }

@@ -134,7 +134,8 @@ pub struct Parser<'a, A: SmallAllocator> {
     func_stack: SmallVec<OpenFunc, 2, A>,
     /// The innermost open list. It is not on the stack, so that counting a member is cheap
     list: OpenList,
-    /// The nodes of what has ended
+    /// The nodes of the functions that have begun, and of the predicates and literals that have
+    /// ended
     writer: NodeWriter<A>,
     /// The predicate or literal that has begun and not ended
     pending: Option<Pending<'a>>,

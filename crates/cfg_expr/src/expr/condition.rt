@@ -31,6 +31,7 @@ use std::marker::Model;
 /// Contracts see it as its stripped text.
 #[derive(Drop)]
 pub struct Condition<'a> {
+    /// The stripped text; the name is that of `cfg-expr`
     pub(super) original: &'a str,
     /// In source order
     pub(super) nodes: &'a [ExprNode],

@@ -244,7 +244,7 @@ pub(super) fn eval_nodes<T: Logic>(nodes: &[ExprNode], slots: &mut [Slot<T>]) ->
 }
 
 /// Pushes `count` empty slots to `slots`, which is new. Up to 33 are inline and take no memory. A
-/// text has no more nodes than bytes, so this is enough for a text of 32 bytes.
+/// text has no more nodes than bytes, so this is enough for the 32 bytes that callers promise.
 // A new vector that was returned in a `Result` would be copied out of it.
 pub(super) fn push_empty_slots<T: Logic, A: Allocator>(
     slots: &mut SmallVec<Slot<T>, 33, &A>,
@@ -297,7 +297,7 @@ where
     }
 }
 
-/// Puts the `answers` into the slots at `places`, as long as both last.
+/// Puts the `answers` into the slots at `places`, until one of the two ends.
 pub(super) fn put_each<T: Logic, I: Iterator<Item = T> + Drop>(
     places: &[usize],
     answers: I,

@@ -38,7 +38,7 @@ fn endian_number(endian: Endian) -> u32
     }
 }
 
-/// Returns the number of bits of an atomic, or 65536 for the width of a pointer.
+/// Returns the number of bits of an atomic, or 65536 for the width `ptr`.
 fn atomic_number(width: HasAtomic) -> u32
     ensures { result ≡ atomic_number width }
 {

@@ -242,8 +242,8 @@ pub(crate) struct Open {
 pub(crate) struct StepWriter<A: SmallAllocator> {
     /// The functions that have begun and not ended, the innermost one last
     begun: SmallVec<Open, 2, A>,
-    /// The steps of leaves that wait for their function to end. Those of its member functions come
-    /// first
+    /// The steps of leaves whose function has not ended, those of inner functions last. When it
+    /// ends, they follow the steps of its member functions
     leaves: SmallVec<Step, 4, A>,
     /// The other steps
     steps: Vec<Step, A>,
@@ -303,7 +303,8 @@ impl<A: SmallAllocator> StepWriter<A> {
             members_left: members,
             leaves,
         })?;
-        // A function without members ends at once.
+        // A function without members ends at once, since `end_member` ends each function that has
+        // at most one member left.
         if members == 0 {
             return self.end_member();
         }

@@ -37,7 +37,7 @@ target_number (target.HasAtomic (IntegerSize bits)) = bits
 target_number (target.PointerWidth bits) = bits
 target_number _ = 0
 
--- the text that is asked of a target; that of the width of a pointer is `ptr`
+-- the text that is asked of a target; that of an atomic of the width `ptr` is `ptr`
 abbrev pub text_with : List ℕ → InnerTarget → List ℕ
 text_with text (target.HasAtomic Pointer) = codes "ptr"
 text_with text _ = text

@@ -1,5 +1,5 @@
-//! Evaluates a text for the command `eval`, whose flags are facts. A predicate that no flag names is
-//! false.
+//! Evaluates a text for the command `eval`, whose flags are facts. A predicate that no flag names
+//! is false.
 
 ghost use Rattle.cfgx_engine.specs.internal.Shows.{FitsResult};
 ghost use Rattle.cfgx_engine.specs.Output.{HasValue};

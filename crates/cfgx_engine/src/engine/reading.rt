@@ -102,8 +102,8 @@ fn read_once<R: Source>(source: &mut R, bytes: &mut [u8], filled: usize) -> Opti
 ///
 /// # Errors
 ///
-/// `Stop::Memory`: `alloc` refused memory. `Stop::Device`: a call of the source failed, and none was
-/// made after it.
+/// `Stop::Memory`: `alloc` refused memory. `Stop::Device`: a call of the source failed, and none
+/// was made after it.
 pub fn read_input<A: Allocator, R: Source>(alloc: A, source: &mut R) -> Result<Input<A>, Stop>
     requires { R.failures source.old < u64.MAX }
     ensures count { R.failures source.new ≡ R.failures source.old + stop_failures result }

@@ -46,7 +46,7 @@ impl<A: Allocator> From<AllocError> for LineError<A> {
 enum Line<'a> {
     /// The line has no byte
     Empty,
-    /// The line has no tab
+    /// The line has bytes, but no tab
     Undivided,
     /// What stands before the first tab, and behind it
     Section { name: &'a str, condition: &'a str },
@@ -134,18 +134,18 @@ fn name_len(bytes: &[u8]) -> usize
     len
 }
 
-/// Prints sections one after another, with the verdict of a target on each.
+/// Collects the output of one section after another, with the verdict of a target on each.
 #[derive(Drop)]
 struct SectionPrinter<'t, A: SmallAllocator> {
     alloc: A,
     target: &'t TargetInfo<'t, A>,
     decider: Decider<A>,
-    /// What is printed so far
+    /// The output so far
     printed: Vec<u8, A>,
 }
 
 impl<'t, A: SmallAllocator> SectionPrinter<'t, A> {
-    /// Makes a printer for `target` that has printed nothing. Takes no memory.
+    /// Makes a printer for `target` without any output. Takes no memory.
     fn new(alloc: A, target: &'t TargetInfo<'t, A>) -> Self
         ensures target { result.target.now ≡ target.now }
         ensures printed { result.printed.items ≡ [] }
@@ -198,7 +198,7 @@ impl<'t, A: SmallAllocator> SectionPrinter<'t, A> {
         push_decision(&self.decider.decision, &mut self.printed)
     }
 
-    /// Returns what is printed.
+    /// Returns the output.
     fn into_printed(self) -> Vec<u8, A>
         ensures { result ≡ self.entry.printed }
     {

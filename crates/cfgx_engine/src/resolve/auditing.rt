@@ -1,7 +1,7 @@
 //! The values of a condition on many targets, by one evaluation in 64 lanes for each 64 of them.
 //!
-//! `ask` takes a predicate by value: with the drop in the loop of `ask_all`, the proof would go over
-//! all kinds of predicates.
+//! `ask` takes a predicate by value: with the drop in the loop of `ask_all`, the proof would go
+//! over all kinds of predicates.
 ghost use Rattle.std.specs.Prelude.{◌≡◌, ◌≤◌, length, IfOk, OnOk};
 ghost use Rattle.std.specs.List.{AllZip};
 ghost use Rattle.cfgx_grammar.specs.Answer.{HasOneTree};
@@ -30,7 +30,7 @@ pub(super) trait Answering<T> {
         ensures { InLanes (answers self.now) targets.now (question_of predicate.entry) result };
 }
 
-/// Asks matchers. A predicate that is not on the target is unknown.
+/// Asks matchers. A predicate that is no `Predicate::Target` is unknown.
 #[derive(Drop)]
 pub(super) struct ByMatching;
 
@@ -50,8 +50,8 @@ impl<M: TargetMatcher> Answering<M> for ByMatching {
     }
 }
 
-/// Evaluates the condition on each target, and pushes each value, converted to `V`, in order. Each
-/// predicate is asked once of each target, and the condition is evaluated once for each 64 targets.
+/// Evaluates the condition on each target, and pushes each value, converted to `V`, in order. For
+/// each 64 targets, `ask` is called once for each predicate, and the condition is evaluated once.
 pub(super) fn push_values<A: SmallAllocator, T, S: Answering<T>, V: From<Option<bool>> + Drop>(
     alloc: A,
     answering: &S,

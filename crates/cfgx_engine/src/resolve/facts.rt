@@ -56,7 +56,7 @@ impl Eq for Otherwise {
 #[derive(Drop)]
 #[derive_where(Debug)]
 pub enum FactsError<A: Allocator = Global> {
-    /// A fact is faulty, and none before it is
+    /// A fact is refused, and none before it is
     Faulty {
         /// The index of the fact
         index: usize,

@@ -20,11 +20,11 @@ use std::marker::Model;
 pub(super) struct Parts<'a> {
     /// The number of its kind
     kind: u32,
-    /// Its value, if that is a number or a byte order, else 0
+    /// Its value, if that is a number; 1 for the byte order `little`; else 0
     number: u16,
     /// Its key, if the kind does not say it
     key: &'a [u8],
-    /// Its value, if that is a text
+    /// Its value, if that is a text or the width `ptr`, else empty
     value: &'a [u8],
 }
 
@@ -70,8 +70,8 @@ fn value_of<'a>(predicate: &'a Predicate<'_>) -> (u16, &'a str)
     }
 }
 
-/// Returns the value of a predicate on the target as a number and a text. The text of the width of
-/// a pointer is `ptr`.
+/// Returns the value of a predicate on the target as a number and a text. An atomic of the width
+/// `ptr` has this text.
 fn target_value<'a>(target: &'a TargetPredicate<'_>) -> (u16, &'a str)
     ensures number { result.0 ≡ number_of (Question.target (target_of target.now)) }
     ensures text { result.1.now ≡ text_of (Question.target (target_of target.now)) }
@@ -112,7 +112,7 @@ impl Named {
         }
     }
 
-    /// Compares the kinds, and then what else differs first. The texts lie in `buffer`.
+    /// Compares kind, number, key and value, in this order. The texts lie in `buffer`.
     fn compare(self, buffer: &[u8], other: &Parts<'_>) -> Ordering
         ensures { result ≡ code_cmp (code_at buffer.now self) (code other.now) }
     {
@@ -150,7 +150,7 @@ fn behind(bytes: &[u8], len: usize) -> &[u8]
     bytes.get(len..).unwrap_or(&[])
 }
 
-/// Predicates that facts name. Contracts see their codes.
+/// Predicates that facts name. Contracts see a `Code` for each, which has what its `Parts` have.
 #[derive(Drop)]
 #[derive_where(Debug)]
 pub(super) struct Names<A: Allocator> {
@@ -233,7 +233,7 @@ impl<A: Allocator> Names<A> {
             .sort_unstable_by(|one, other| one.compare(buffer, &other.parts(buffer)));
     }
 
-    /// Whether the predicate with the parts `asked` is among those that are sorted.
+    /// Whether the predicate with the parts `asked` was added. They have to be sorted.
     // Inlined, so that an empty list costs no call.
     #[inline(always)]
     pub(super) fn has(&self, asked: &Parts<'_>) -> bool
@@ -243,7 +243,7 @@ impl<A: Allocator> Names<A> {
         !self.is_empty() && self.finds(asked)
     }
 
-    /// Searches the predicate with the parts `asked` among those that are sorted, by halving.
+    /// Whether a binary search finds the predicate with the parts `asked`. They have to be sorted.
     fn finds(&self, asked: &Parts<'_>) -> bool
         requires { IsSorted code_cmp self.now }
         ensures { IsTrue result ↔ Contains self.now (code asked.now) }

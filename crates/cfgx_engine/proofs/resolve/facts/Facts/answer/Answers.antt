@@ -15,9 +15,11 @@ returns-then-is_empty-2 g c =
     let question = question_of c.args.predicate.now in
     let named_true = IsNamed-spelled _ question c.self.invariant.0.0 in
     let named_unknown = IsNamed-spelled _ question c.self.invariant.1.0 in
+    let no_true = c.is_empty.ensures.0 c.if-is_empty.true in
+    let no_unknown = c.is_empty-then-is_empty.ensures.0 c.if-is_empty-2.true in
     rw (← c.self.view_is) (inr (inr (
-      λ named. none_in _ _ (c.is_empty.ensures.0 c.if-is_empty.true) (named_true.0 named),
-      λ named. none_in _ _ (c.is_empty-then-is_empty.ensures.0 c.if-is_empty-2.true) (named_unknown.0 named),
+      λ named. none_in _ _ no_true (named_true.0 named),
+      λ named. none_in _ _ no_unknown (named_unknown.0 named),
       c.unnamed_answer-unnamed.ensures,
     )))
 
