@@ -21,10 +21,10 @@ TESTED = {
 OTHERS = {
     "all built-in targets", "built-in target", "calls for the next predicate", "counted stream",
     "ending", "failed read", "fault of the page", "field", "items", "length of an input",
-    "list of families", "list of widths", "long run", "long spelling", "nodes", "not UTF-8", "pick",
-    "pick of the page", "pick on a target", "printed fault", "property", "reads", "reason",
-    "run on each target", "spelling of the page", "streams of pick", "table", "type",
-    "typed predicates", "values on built-in targets", "values on no target",
+    "list of families", "list of widths", "located predicates", "long run", "long spelling",
+    "nodes", "not UTF-8", "pick", "pick of the page", "pick on a target", "printed fault",
+    "property", "reads", "reason", "run on each target", "spelling of the page", "streams of pick",
+    "table", "type", "typed predicates", "values on built-in targets", "values on no target",
     "values on targets made by hand", "whole input", "width",
 }
 
