@@ -13,7 +13,8 @@
  *
  * A list of texts is passed as the bytes of all texts, one after another with nothing between
  * them, and an array of their ends: `ends[i]` is the number of bytes of the first i + 1 texts. An
- * empty list has no ends, and its length is 0.
+ * empty list has no ends, and its length is 0. If an end cuts a character, the text in which the
+ * character begins is not UTF-8.
  *
  * A buffer has a length `room`, in items, and a `*needed`. A call always writes `*needed`: the
  * number of items of the result, or 0 if there is no result. If `room` is at least `*needed`, the
@@ -23,11 +24,12 @@
  * all the work too, so pass a buffer at once if you know how many items there are.
  *
  * If several statuses apply, a call returns the first of these: CFGX_STATUS_BAD_ENDS;
- * CFGX_STATUS_TOO_LARGE; CFGX_STATUS_NOT_UTF8 or CFGX_STATUS_FAULTY, for the first text that is not
- * UTF-8 or no condition; CFGX_STATUS_FAULTY_FACT; CFGX_STATUS_NO_VALUE; CFGX_STATUS_MISCOUNTED. The
- * order of `cfgx_run` is: CFGX_STATUS_BAD_ENDS; CFGX_STATUS_NOT_UTF8, for any word;
- * CFGX_STATUS_WRONG_USE; CFGX_STATUS_FAULTY. A call may return CFGX_STATUS_OUT_OF_MEMORY in place
- * of every status but CFGX_STATUS_BAD_ENDS and CFGX_STATUS_TOO_LARGE.
+ * CFGX_STATUS_TOO_LARGE; CFGX_STATUS_FAULTY_FACT, for a fact that is not UTF-8, and then for one
+ * that is faulty; CFGX_STATUS_NOT_UTF8, for any text; CFGX_STATUS_FAULTY; CFGX_STATUS_NO_VALUE;
+ * CFGX_STATUS_MISCOUNTED. The order of `cfgx_run` is: CFGX_STATUS_BAD_ENDS; CFGX_STATUS_NOT_UTF8,
+ * for any word; CFGX_STATUS_WRONG_USE; CFGX_STATUS_FAULTY. A call may return
+ * CFGX_STATUS_OUT_OF_MEMORY in place of every status but CFGX_STATUS_BAD_ENDS and
+ * CFGX_STATUS_TOO_LARGE. But for that, the same arguments always have the same status.
  *
  * A call keeps no pointer and no memory. It takes memory from malloc and realloc, and returns it
  * to free. Several threads may call at once. Nothing checks these duties of a caller:
@@ -235,8 +237,8 @@ uint32_t cfgx_decide(const char *text, size_t text_length,
  * do. A key with a value is passed over if it begins with `target_` and is unknown. Every other
  * fact that is no condition is faulty, such as a blank one.
  *
- * Returns CFGX_STATUS_DONE; CFGX_STATUS_FAULTY or CFGX_STATUS_NOT_UTF8, which are about the text;
- * CFGX_STATUS_FAULTY_FACT; CFGX_STATUS_OUT_OF_MEMORY; or CFGX_STATUS_BAD_ENDS. */
+ * Returns CFGX_STATUS_DONE; CFGX_STATUS_FAULTY_FACT; CFGX_STATUS_NOT_UTF8 or CFGX_STATUS_FAULTY,
+ * which are about the text; CFGX_STATUS_OUT_OF_MEMORY; or CFGX_STATUS_BAD_ENDS. */
 uint32_t cfgx_answers(const char *text, size_t text_length,
                       const char *facts, size_t facts_length,
                       const size_t *fact_ends, size_t fact_count, uint8_t otherwise,
@@ -264,7 +266,7 @@ struct cfgx_step {
  * from which the value that was pushed last is popped first. The answers are in the order of
  * `predicates`. `all`: acc = true; for each popped value v, acc = acc and v; acc is pushed. `any`:
  * the same with false and or. At the end the stack has one value, which is that of the condition.
- * The stack never has more values than there are steps.
+ * The stack never has more values than there are steps, and there are no more steps than bytes.
  *
  * Both buffers are filled, or neither. Returns CFGX_STATUS_DONE, CFGX_STATUS_FAULTY,
  * CFGX_STATUS_NOT_UTF8 or CFGX_STATUS_OUT_OF_MEMORY. */
@@ -288,11 +290,12 @@ uint32_t cfgx_apply(const struct cfgx_step *steps, size_t step_count,
  * `target_ends[j]`, and answers by them as in `cfgx_answers`. Item `i * target_count + j` of
  * `values` becomes the value of condition i on target j, so `*needed` is text_count * target_count.
  *
- * Returns CFGX_STATUS_DONE. Returns CFGX_STATUS_FAULTY or CFGX_STATUS_NOT_UTF8, and writes the
- * number of the first such text to `*place`. Returns CFGX_STATUS_FAULTY_FACT, and writes the number
- * of the first such fact, counted over all targets, to `*place`. Otherwise returns
- * CFGX_STATUS_OUT_OF_MEMORY, CFGX_STATUS_BAD_ENDS or CFGX_STATUS_TOO_LARGE. With every other
- * status, `*place` stays as it was. */
+ * Returns CFGX_STATUS_DONE. Returns CFGX_STATUS_FAULTY_FACT, and writes the number of a fact,
+ * counted over all targets, to `*place`: of the first that is not UTF-8, or if all are, of the
+ * first faulty one. Returns CFGX_STATUS_NOT_UTF8 or CFGX_STATUS_FAULTY, and writes the number of
+ * the first such text to `*place`. Otherwise returns CFGX_STATUS_OUT_OF_MEMORY,
+ * CFGX_STATUS_BAD_ENDS or CFGX_STATUS_TOO_LARGE. With every other status, `*place` stays as it
+ * was. */
 uint32_t cfgx_audit(const char *texts, size_t texts_length,
                     const size_t *text_ends, size_t text_count,
                     const char *facts, size_t facts_length,

@@ -12,7 +12,7 @@ use Rattle.cfgx_parser.specs.Kinds.{kind_number}
 use Rattle.cfgx_parser.specs.declared.nodes.Span.{Span}
 use Rattle.cfg_expr.specs.Located.{AreLocated, CanBeCut, Locates}
 use Rattle.cfg_expr.specs.declared.expr.located.LocatedPredicate.{LocatedPredicate}
-use Rattle.cfgx_c.specs.Predicates.{Describes, HasSpans, IsSpanOf, ListsPredicates, c_predicate}
+use Rattle.cfgx_c.specs.Predicates.{Describes, IsSpanOf, ListsPredicates, c_predicate}
 use Rattle.cfgx_c.specs.Predicates.{moved}
 
 -- a part of a part
@@ -75,7 +75,8 @@ ListsPredicates-located text located are = record {
 
 pub first_located : (text : List ℕ) (questions : List Question) (p : LocatedPredicate)
     (rest : List LocatedPredicate) → AllZip (Locates text) questions (p ∷ rest)
-    → HasSpans text p × (others : List Question) × AllZip (Locates text) others rest
+    → CanBeCut text p.key × CanBeCut text p.value
+    × (others : List Question) × AllZip (Locates text) others rest
 first_located text (question ∷ others) p rest (is, are) =
-    ((is.key.cut, is.value.cut), others, are)
+    (is.key.cut, is.value.cut, others, are)
 first_located text [] p rest are = absurd are

@@ -9,7 +9,7 @@ use Rattle.cfgx_grammar.specs.Question.{Question}
 use Rattle.cfgx_grammar.specs.Tree.{asked}
 use Rattle.cfgx_parser.specs.Kinds.{kind_number, kind_of}
 use Rattle.cfgx_parser.specs.declared.nodes.Span.{Span}
-use Rattle.cfg_expr.specs.Located.{AreLocated, CanBeCut, key_text, number_of, value_text}
+use Rattle.cfg_expr.specs.Located.{AreLocated, key_text, number_of, value_text}
 use Rattle.cfg_expr.specs.declared.expr.located.LocatedPredicate.{LocatedPredicate}
 use Rattle.cfgx_c.specs.declared.predicates.CfgxPredicate.{CfgxPredicate}
 
@@ -42,10 +42,6 @@ c_predicate offset predicate = record {
   value_start = (moved offset predicate.value).start;
   value_end = (moved offset predicate.value).end;
 }
-
--- the text can be cut at both ends of each span of the predicate
-abbrev pub HasSpans : List ℕ → LocatedPredicate → Type 0
-HasSpans text predicate = CanBeCut text predicate.key × CanBeCut text predicate.value
 
 -- the predicates have the spans of those of the stripped text, moved by what was stripped
 abbrev pub AreInPlace : List ℕ → List CfgxPredicate → Type 0

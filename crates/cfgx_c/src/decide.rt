@@ -1,6 +1,7 @@
 //! The decision of a condition over answers.
 
-ghost use Rattle.std.specs.Prelude.{◌≡◌, ◌≢◌, ◌≤◌, ◌++◌, IfOk, OnOk, map};
+ghost use Rattle.std.specs.Prelude.{◌≡◌, ◌≢◌, ◌≤◌, ◌++◌, IfOk, drop, length, map};
+ghost use Rattle.cfgx_c.specs.Buffer.{Fills};
 ghost use Rattle.cfgx_syntax.specs.Stripping.{strip};
 ghost use Rattle.cfg_expr.specs.Given.{AreAnswersTo};
 ghost use Rattle.cfg_expr.specs.Deciding.{Decides};
@@ -9,7 +10,6 @@ ghost use Rattle.cfgx_c.specs.Decide.{DecidesOver, filling_bytes, fillings_in, v
 ghost use Rattle.cfgx_c.specs.Status.{done, miscounted, wrong_use};
 ghost use Rattle.cfgx_c.specs.Value.{HasOtherCount, answer_of, byte_of_value};
 
-use crate::buffer::fill;
 use crate::bytes::{answers_of, byte_of_value};
 use crate::reading::read_answered;
 use crate::status::{DONE, OUT_OF_MEMORY};
@@ -27,31 +27,31 @@ fn value_in(decision: &Decision) -> Option<bool>
     }
 }
 
-/// Appends the truth values of `filling` to `bytes`, a byte for each.
-///
-/// The error is that memory was refused.
-fn push_filling(bytes: &mut Vec<u8>, filling: &[bool]) -> Result<(), AllocError>
-    ensures { OnOk result (bytes.new.items ≡ bytes.old.items ++ filling_bytes filling.now) }
+/// Writes the truth values of `filling` to the start of `buffer`, a byte for each.
+fn write_filling(buffer: &mut [u8], filling: &[bool])
+    requires { length filling.now ≤ length buffer.old }
+    ensures { buffer.new ≡ filling_bytes filling.now ++ drop (length filling.now) buffer.old }
 {
-    for truth in filling {
-        bytes.push(byte_of_value(Some(*truth)))?;
+    for i in 0..filling.len() {
+        buffer[i] = byte_of_value(Some(filling[i]));
     }
-    Ok(())
 }
 
-/// Returns the bytes of both fillings of a decision, one behind the other, or none if the value is
-/// known.
-///
-/// The error is that `alloc` refused memory.
-fn fillings_in(alloc: Global, decision: &Decision) -> Result<Vec<u8>, AllocError>
-    ensures { IfOk result (λ bytes. bytes.items ≡ fillings_in decision.now) }
+/// Fills `buffer` with both fillings of a decision, one behind the other. Returns their length,
+/// which is 0 if the value is known.
+fn fill_fillings(buffer: &mut [u8], decision: &Decision) -> usize
+    ensures { Fills (fillings_in decision.now) buffer.old buffer.new result }
 {
-    let mut bytes = Vec::new(alloc);
-    if let Decision::Unknown { if_true, if_false } = decision {
-        push_filling(&mut bytes, if_true.as_slice())?;
-        push_filling(&mut bytes, if_false.as_slice())?;
+    let Decision::Unknown { if_true, if_false } = decision else {
+        return 0;
+    };
+    let needed = if_true.len() + if_false.len();
+    if needed <= buffer.len() {
+        let (first, second) = buffer.split_at_mut(if_true.len());
+        write_filling(first, if_true.as_slice());
+        write_filling(second, if_false.as_slice());
     }
-    Ok(bytes)
+    needed
 }
 
 /// Decides a condition over `answers`, which are in the order of its predicates.
@@ -103,15 +103,12 @@ pub extern "C" fn cfgx_decide(
     let mut reader = ConditionReader::new(alloc);
     let condition = match read_answered(&mut reader, text, answers) {
         Ok(condition) => condition,
-        Err(status) => return status,
+        Err(refusal) => return refusal.status,
     };
     let Ok(decision) = decide_over_bytes(alloc, &condition, answers) else {
         return OUT_OF_MEMORY;
     };
-    let Ok(bytes) = fillings_in(alloc, &decision) else {
-        return OUT_OF_MEMORY;
-    };
-    *needed = fill(fillings, bytes.as_slice());
+    *needed = fill_fillings(fillings, &decision);
     *value = byte_of_value(value_in(&decision));
     DONE
 }

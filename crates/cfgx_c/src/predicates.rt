@@ -1,20 +1,25 @@
 //! The predicates of a condition as C sees them.
 
-ghost use Rattle.std.specs.Prelude.{◌≡◌, ◌≢◌, ◌≤◌, ◌<◌, ◌+◌, ◌^◌, ℕ, List, IfOk, length};
-ghost use Rattle.cfgx_syntax.specs.Stripping.{strip};
-ghost use Rattle.cfg_expr.specs.Located.{CanBeCut};
-ghost use Rattle.cfgx_c.specs.Faults.{TellsOf};
+ghost use Rattle.std.specs.Prelude.{◌≡◌, ◌≢◌, ◌≤◌, ◌<◌, ◌+◌, ◌^◌, ◌++◌, ℕ, List, IfErr};
+ghost use Rattle.std.specs.Prelude.{IfOk, OnErr, drop, length, map};
+ghost use Rattle.std.specs.Str.{IsUtf8};
+ghost use Rattle.std.specs.List.{AllZip};
+ghost use Rattle.cfgx_syntax.specs.Stripping.{strip, strip_offset};
+ghost use Rattle.cfgx_grammar.specs.Question.{Question};
+ghost use Rattle.cfg_expr.specs.Located.{CanBeCut, Locates};
 ghost use Rattle.cfgx_c.specs.Buffer.{Fills};
-ghost use Rattle.cfgx_c.specs.Predicates.{HasSpans, ListsPredicates, c_predicate, moved};
+ghost use Rattle.cfgx_c.specs.Faults.{TellsOf};
+ghost use Rattle.cfgx_c.specs.Predicates.{ListsPredicates, c_predicate, moved};
 ghost use Rattle.cfgx_c.specs.Status.{done, not_utf8, wrong_use};
 ghost use Rattle.cfgx_c.specs.declared.predicates.CfgxPredicate.{CfgxPredicate};
+ghost use Rattle.cfgx_c.specs.internal.Refusals.{RefusesText};
 
-use crate::buffer::fill;
-use crate::reading::read_condition;
-use crate::status::{DONE, NOT_UTF8, OUT_OF_MEMORY};
-use cfg_expr::expr::{Condition, ConditionReader, LocatedPredicate, Span};
+use crate::fault::Refusal;
+use crate::reading::{read_condition, read_text};
+use crate::status::DONE;
+use cfg_expr::expr::{ConditionReader, LocatedPredicate, LocatedPredicates, Span};
 use cfgx_syntax::stripping::strip;
-use std::alloc::{AllocError, Global};
+use std::alloc::Global;
 
 /// A predicate of a condition. Spans are in bytes of the text as it was passed.
 #[repr(C)]
@@ -52,7 +57,8 @@ fn moved(span: Option<Span>, offset: usize) -> Span
 
 /// Returns a predicate as C sees it. `offset` bytes were stripped before the text.
 fn c_predicate(predicate: LocatedPredicate, offset: usize) -> CfgxPredicate
-    requires { (text : List ℕ) × HasSpans text predicate × (length text + offset < 2 ^ 64) }
+    requires { (text : List ℕ) × CanBeCut text predicate.key × CanBeCut text predicate.value
+        × (length text + offset < 2 ^ 64) }
     ensures { result ≡ c_predicate offset predicate }
 {
     let key = moved(predicate.key, offset);
@@ -67,25 +73,49 @@ fn c_predicate(predicate: LocatedPredicate, offset: usize) -> CfgxPredicate
     }
 }
 
-/// Returns the predicates of `text`, from which `condition` was read, in the order in which they
-/// are asked.
-///
-/// The error is that `alloc` refused memory.
-pub(crate) fn predicates_of(
-    alloc: Global,
+/// Writes the predicates of `text` to the start of `buffer`, which has room for them.
+pub(crate) fn write_predicates(
     text: &str,
-    condition: &Condition<'_>,
-) -> Result<Vec<CfgxPredicate>, AllocError>
-    requires { condition.now ≡ strip text.now }
-    ensures { IfOk result (λ list. ListsPredicates text.now list.items) }
+    predicates: LocatedPredicates<'_>,
+    buffer: &mut [CfgxPredicate],
+)
+    requires room { length predicates ≤ length buffer.old }
+    requires located { (questions : List Question)
+        × AllZip (Locates (strip text.now)) questions predicates }
+    ensures { buffer.new ≡ map (c_predicate (strip_offset text.now)) predicates.entry
+        ++ drop (length predicates.entry) buffer.old }
 {
     let offset = strip(text).offset;
-    let predicates = condition.located_predicates();
-    let mut list = Vec::with_capacity(alloc, predicates.left())?;
+    let mut written = 0;
     for predicate in predicates {
-        list.push(c_predicate(predicate, offset))?;
+        buffer[written] = c_predicate(predicate, offset);
+        written += 1;
     }
-    Ok(list)
+}
+
+/// Reads a condition, and fills `buffer` with its predicates. Returns their number.
+///
+/// The error is about the text, or memory was refused.
+fn fill_predicates(
+    alloc: Global,
+    text: &[u8],
+    buffer: &mut [CfgxPredicate],
+) -> Result<usize, Refusal>
+    ensures ok { IfOk result (λ needed. IsUtf8 text.now × (list : List CfgxPredicate)
+        × ListsPredicates text.now list × Fills list buffer.old buffer.new needed) }
+    ensures err { IfErr result (RefusesText text.now) }
+    ensures kept { OnErr result (buffer.new ≡ buffer.old) }
+{
+    let text = read_text(text)?;
+    let mut reader = ConditionReader::new(alloc);
+    let condition = read_condition(&mut reader, text)?;
+    let predicates = condition.located_predicates();
+    let needed = predicates.left();
+    if needed > buffer.len() {
+        return Ok(needed);
+    }
+    write_predicates(text, predicates, buffer);
+    Ok(needed)
 }
 
 /// Lists the predicates of a condition in the order in which they are asked. A predicate that
@@ -109,17 +139,11 @@ pub extern "C" fn cfgx_predicates(
     ensures status { (result ≤ not_utf8) × (result ≢ wrong_use) }
 {
     *needed = 0;
-    let Ok(text) = str::from_utf8(text) else {
-        return NOT_UTF8;
-    };
-    let mut reader = ConditionReader::new(alloc);
-    let condition = match read_condition(&mut reader, text) {
-        Ok(condition) => condition,
-        Err(status) => return status,
-    };
-    let Ok(list) = predicates_of(alloc, text, &condition) else {
-        return OUT_OF_MEMORY;
-    };
-    *needed = fill(predicates, list.as_slice());
-    DONE
+    match fill_predicates(alloc, text, predicates) {
+        Ok(found) => {
+            *needed = found;
+            DONE
+        }
+        Err(refusal) => refusal.status,
+    }
 }

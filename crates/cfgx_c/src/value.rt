@@ -30,7 +30,7 @@ pub extern "C" fn cfgx_value(alloc: Global, text: &[u8], answers: &[u8], value: 
     let mut reader = ConditionReader::new(alloc);
     let condition = match read_answered(&mut reader, text, answers) {
         Ok(condition) => condition,
-        Err(status) => return status,
+        Err(refusal) => return refusal.status,
     };
     let Ok(found) = eval_over_bytes(alloc, &condition, answers) else {
         return OUT_OF_MEMORY;

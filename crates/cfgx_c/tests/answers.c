@@ -65,6 +65,10 @@ static const struct row rows[] = {
     STATUS("a", LIST(TEXT("a"), TEXT("k = \"\xff\"")), FAULTY_FACT),
     /* The character is whole only if two facts are read as one. */
     STATUS("a", LIST(TEXT("k = \"\xc3"), TEXT("\xa9\"")), FAULTY_FACT),
+    /* The facts come before the text. */
+    STATUS("all(a", LIST(TEXT("b)")), FAULTY_FACT),
+    STATUS("a = \"\xff\"", LIST(TEXT("b"), TEXT("\xff")), FAULTY_FACT),
+    STATUS("a = \"\xff\"", LIST(TEXT("b")), NOT_UTF8),
 };
 
 static void call(const void *item, size_t room, uint32_t status)

@@ -49,15 +49,25 @@ static const struct row rows[] = {
     {LIST(TEXT("k = \"\xc3"), TEXT("\xa9\"")), NO_TEXTS, 0, {0}, 0, FAULTY(NOT_UTF8, 0)},
     {LIST(TEXT("a"), TEXT("b"), TEXT("\xff")), LIST(LINUX), 1, {3}, 0, FAULTY(NOT_UTF8, 2)},
     {LIST(TEXT("\xff"), TEXT("b)")), LIST(LINUX), 1, {3}, 0, FAULTY(NOT_UTF8, 0)},
-    {LIST(TEXT("b)"), TEXT("\xff")), LIST(LINUX), 1, {3}, 0, FAULTY(FAULTY, 0)},
+    /* All texts are tested for UTF-8 before one is read. An end may cut a character. */
+    {LIST(TEXT("b)"), TEXT("\xff")), LIST(LINUX), 1, {3}, 0, FAULTY(NOT_UTF8, 1)},
+    {LIST(TEXT("a"), TEXT("k = \"\xc3"), TEXT("\xa9\""), TEXT("\xff")), NO_TEXTS, 0, {0}, 0,
+     FAULTY(NOT_UTF8, 1)},
+    {LIST(TEXT("a"), TEXT(""), TEXT("\xe2\x82"), TEXT(""), TEXT("\xac")), NO_TEXTS, 0, {0}, 0,
+     FAULTY(NOT_UTF8, 2)},
+    {LIST(TEXT("a"), TEXT("k = \"\xe2\x82")), NO_TEXTS, 0, {0}, 0, FAULTY(NOT_UTF8, 1)},
     {LIST(TEXT("a")), LIST(LINUX, TEXT("a)"), TEXT("b)")), 2, {2, 5}, 0, FAULTY(FAULTY_FACT, 3)},
     {LIST(TEXT("a")), LIST(LINUX, TEXT("a"), TEXT("\xff")), 2, {2, 5}, 0, FAULTY(FAULTY_FACT, 4)},
     {LIST(TEXT("a")), LIST(TEXT("unix = \"x\"")), 1, {1}, 0, FAULTY(FAULTY_FACT, 0)},
     {NO_TEXTS, LIST(TEXT("a"), TEXT("a)")), 1, {2}, 0, FAULTY(FAULTY_FACT, 1)},
-    /* A faulty text comes before a faulty fact. */
-    {LIST(TEXT("a"), TEXT("b)")), LIST(TEXT("a)")), 1, {1}, 0, FAULTY(FAULTY, 1)},
+    /* The facts come before the texts. All are tested for UTF-8 before one is read. */
+    {LIST(TEXT("a"), TEXT("b)")), LIST(TEXT("a)")), 1, {1}, 0, FAULTY(FAULTY_FACT, 0)},
     {LIST(TEXT("a"), TEXT("\xff")), LIST(TEXT("a"), TEXT("\xff")), 2, {1, 2}, 0,
-     FAULTY(NOT_UTF8, 1)},
+     FAULTY(FAULTY_FACT, 1)},
+    {LIST(TEXT("\xff")), LIST(TEXT("a"), TEXT("a)")), 2, {1, 2}, 0, FAULTY(FAULTY_FACT, 1)},
+    {LIST(TEXT("a")), LIST(TEXT("a)"), TEXT("\xff")), 2, {1, 2}, 0, FAULTY(FAULTY_FACT, 1)},
+    {LIST(TEXT("a")), LIST(TEXT("a"), TEXT("k = \"\xc3"), TEXT("\xa9\"")), 1, {3}, 0,
+     FAULTY(FAULTY_FACT, 1)},
 };
 
 /* What a call is passed beside its buffer. */

@@ -1,13 +1,13 @@
 use Rattle.std.proofs.Common.{◌≡◌, ◌∙◌, ◌++◌, ap, arith, drop, length, map, take}
 use Rattle.std.proofs.lemmas.List.{take_all}
 use Rattle.cfgx_c.specs.Value.{byte_of_value}
-use Rattle.cfgx_c.proofs.InputLemmas.{written-more}
-use Rattle.cfgx_c.proofs.answers.write_values.Goals as goal
+use Rattle.cfgx_c.proofs.BufferLemmas.{written_more}
+use Rattle.cfgx_c.proofs.bytes.write_values.Goals as goal
 
 -- one byte more
 pub loop-i-preserved : goal.loop-i-preserved
 loop-i-preserved c =
-    rw c.byte_of_value.ensures (written-more byte_of_value c.args.values.now c.args.buffer.now
+    rw c.byte_of_value.ensures (written_more byte_of_value c.args.values.now c.args.buffer.now
     c.loop-i.buffer c.loop-i.i _ c.loop-i-test.true c.requires c.loop-i.invariant)
 
 -- all bytes
