@@ -13,7 +13,7 @@ use Rattle.cfgx_parser.specs.declared.nodes.Span.{Span}
 use Rattle.cfg_expr.specs.Located.{AreLocated, CanBeCut, Locates}
 use Rattle.cfg_expr.specs.declared.expr.located.LocatedPredicate.{LocatedPredicate}
 use Rattle.cfgx_c.specs.Predicates.{Describes, IsSpanOf, ListsPredicates, c_predicate}
-use Rattle.cfgx_c.specs.Predicates.{moved}
+use Rattle.cfgx_c.specs.Predicates.{moved_or_none}
 
 -- a part of a part
 part_of_part : (n offset start end : ℕ) (text : List ℕ) → start ≤ end
@@ -36,7 +36,7 @@ part_of_part n offset start end text ordered within =
 
 module _ (text : List ℕ) where
   moved-span : (span : Option Span) → CanBeCut (strip text) span
-      → let there = moved (strip_offset text) span in
+      → let there = moved_or_none (strip_offset text) span in
       IsSpanOf text (option_map (at (strip text)) span) there.start there.end
   moved-span None cut = (refl, refl)
   moved-span (Some span) cut =
@@ -72,11 +72,3 @@ ListsPredicates-located text located are = record {
   each = described_each text _ located are.each;
   in_place = (located, are, refl);
 }
-
-pub first_located : (text : List ℕ) (questions : List Question) (p : LocatedPredicate)
-    (rest : List LocatedPredicate) → AllZip (Locates text) questions (p ∷ rest)
-    → CanBeCut text p.key × CanBeCut text p.value
-    × (others : List Question) × AllZip (Locates text) others rest
-first_located text (question ∷ others) p rest (is, are) =
-    (is.key.cut, is.value.cut, others, are)
-first_located text [] p rest are = absurd are

@@ -25,13 +25,13 @@ use Rattle.cfgx_engine.specs.declared.resolve.facts.FactsError.{FactsError}
 use Rattle.cfgx_engine.specs.declared.resolve.facts.FactsError.TheVariants as facts_error
 use Rattle.cfgx_c.specs.Ends.{parts_from}
 use Rattle.cfgx_c.specs.Faults.{HasFactFault, HasFault, HasNoUtf8, IsFact, IsFirst, IsFirstOfFacts}
-use Rattle.cfgx_c.specs.Faults.{IsCondition, Tells}
+use Rattle.cfgx_c.specs.Faults.{IsCondition}
 use Rattle.cfgx_c.specs.Faults.{c_fault, fact_offset}
 use Rattle.cfgx_c.specs.Status.{faulty, faulty_fact, not_utf8}
 use Rattle.cfgx_c.specs.declared.fault.{CfgxFault.CfgxFault, Refusal.Refusal}
-use Rattle.cfgx_c.specs.internal.Refusals.{FactStands, IsAbout, IsFirstFrom, Refuses}
-use Rattle.cfgx_c.specs.internal.Refusals.{RefusesText, error_fault, fact_refusal, text_refusal}
-use Rattle.cfgx_c.specs.internal.Refusals.{views}
+use Rattle.cfgx_c.specs.internal.Refusals.{FactStands, IsAbout, IsFirstFrom, IsThatOfFirst}
+use Rattle.cfgx_c.specs.internal.Refusals.{Refuses, RefusesText, error_fault, fact_refusal}
+use Rattle.cfgx_c.specs.internal.Refusals.{text_refusal, views}
 
 -- The first item that is not good.
 
@@ -89,12 +89,11 @@ all_conditions texts utf8 one i d below =
 
 -- What is known of a refusal.
 
-module _ (status : ℕ) (P Q : ℕ → CfgxFault → Type 0) where
-  pub IsAbout-weaker : (refusal : Refusal)
-      → ((number : ℕ) (fault : CfgxFault) → P number fault → Q number fault)
+module _ (status : ℕ) (P Q : CfgxFault → Type 0) where
+  pub IsAbout-weaker : (refusal : Refusal) → ((fault : CfgxFault) → P fault → Q fault)
       → IsAbout status P refusal → IsAbout status Q refusal
   IsAbout-weaker refusal weaker (inl plain) = inl plain
-  IsAbout-weaker refusal weaker (inr about) = inr (about.0, weaker _ _ about.1)
+  IsAbout-weaker refusal weaker (inr about) = inr (about.0, weaker _ about.1)
 
 module _ (facts texts : List (List ℕ)) (refusal : Refusal) where
   -- of a call that cannot read its facts
@@ -105,6 +104,7 @@ module _ (facts texts : List (List ℕ)) (refusal : Refusal) where
       of_fact = λ is. absurd (omega (arith, is));
       of_bytes = λ is. absurd (omega (arith, is));
       of_text = λ is. absurd (omega (arith, is));
+      none = λ one two three. refl;
     };
     fails = search rules;
   })
@@ -113,12 +113,14 @@ module _ (facts texts : List (List ℕ)) (refusal : Refusal) where
       of_fact = λ is. about.1;
       of_bytes = λ is. absurd (omega (arith, is, about.0));
       of_text = λ is. absurd (omega (arith, is, about.0));
+      none = λ one two three. absurd (one about.0);
     };
     fails = rw about.0 (search rules);
   }
 
   -- of a call that reads its facts, and then finds a text that is not UTF-8, or a faulty one
-  pub Refuses-bytes : All IsFact facts → IsAbout not_utf8 (IsFirst IsUtf8 HasNoUtf8 texts) refusal
+  pub Refuses-bytes : All IsFact facts
+      → IsAbout not_utf8 (IsThatOfFirst IsUtf8 HasNoUtf8 texts) refusal
       → Refuses facts texts refusal
   Refuses-bytes good (inl plain) = Refuses-facts (inl plain)
   Refuses-bytes good (inr about) = record {
@@ -126,12 +128,13 @@ module _ (facts texts : List (List ℕ)) (refusal : Refusal) where
       of_fact = λ is. absurd (omega (arith, is, about.0));
       of_bytes = λ is. (good, about.1);
       of_text = λ is. absurd (omega (arith, is, about.0));
+      none = λ one two three. absurd (two about.0);
     };
     fails = rw about.0 (search rules);
   }
 
   pub Refuses-texts : All IsFact facts → All IsUtf8 texts
-      → IsAbout faulty (IsFirst (λ text. HasOneTree (strip text)) HasFault texts) refusal
+      → IsAbout faulty (IsThatOfFirst (λ text. HasOneTree (strip text)) HasFault texts) refusal
       → Refuses facts texts refusal
   Refuses-texts good utf8 (inl plain) = Refuses-facts (inl plain)
   Refuses-texts good utf8 (inr about) = record {
@@ -139,52 +142,36 @@ module _ (facts texts : List (List ℕ)) (refusal : Refusal) where
       of_fact = λ is. absurd (omega (arith, is, about.0));
       of_bytes = λ is. absurd (omega (arith, is, about.0));
       of_text = λ is. (good, utf8, about.1);
+      none = λ one two three. absurd (three about.0);
     };
     fails = rw about.0 (search rules);
   }
 
   -- of a call whose facts are UTF-8, and that finds a faulty one
   pub Refuses-read : All IsUtf8 facts
-      → IsAbout faulty_fact (IsFirst IsRustcFact HasFactFault facts) refusal
+      → IsAbout faulty_fact (IsThatOfFirst IsRustcFact HasFactFault facts) refusal
       → Refuses facts texts refusal
   Refuses-read utf8 about = Refuses-facts
-      (IsAbout-weaker faulty_fact (IsFirst IsRustcFact HasFactFault facts) (IsFirstOfFacts facts)
-      refusal (λ number fault first. inr (utf8, first)) about)
+      (IsAbout-weaker faulty_fact (IsThatOfFirst IsRustcFact HasFactFault facts)
+      (IsFirstOfFacts facts) refusal (λ fault first. inr (utf8, first)) about)
 
 -- numbers that begin at 0
-pub IsFirst-all : (facts : List (List ℕ)) (number : ℕ) (fault : CfgxFault)
-    → IsFirstFrom 0 IsRustcFact HasFactFault facts number fault
-    → IsFirst IsRustcFact HasFactFault facts number fault
-IsFirst-all facts number fault (index, is, first) =
-    let same : number ≡ index = omega (arith, is) in rw same first
-
--- a status that is about no fact and no text
-pub Tells-none : (facts texts : List (List ℕ)) (status number : ℕ) (fault : CfgxFault)
-    → status ≢ faulty_fact → status ≢ not_utf8 → status ≢ faulty
-    → Tells facts texts status number fault
-Tells-none facts texts status number fault of_fact of_bytes of_text = record {
-  of_fact = λ is. absurd (of_fact is);
-  of_bytes = λ is. absurd (of_bytes is);
-  of_text = λ is. absurd (of_text is);
-}
+pub IsFirst-all : (facts : List (List ℕ)) (fault : CfgxFault)
+    → IsFirstFrom 0 IsRustcFact HasFactFault facts fault
+    → IsThatOfFirst IsRustcFact HasFactFault facts fault
+IsFirst-all facts fault (index, is, first) =
+    let same : fault.item ≡ index = omega (arith, is) in rw same first
 
 -- of a call with one text that reads its facts
 pub Refuses-text : (facts : List (List ℕ)) (text : List ℕ) (refusal : Refusal) → All IsFact facts
     → RefusesText text refusal → Refuses facts (text ∷ []) refusal
 Refuses-text facts text refusal good refuses = record {
   tells = record {
-    of_fact = λ is. absurd (omega (arith, is, refuses.fails));
-    of_bytes = λ is. (
-      good,
-      rw refuses.item_is
-          (IsFirst-only IsUtf8 HasNoUtf8 text refusal.fault (refuses.utf8 is)),
-    );
-    of_text = λ is. (
-      good,
-      All-cons IsUtf8 text [] (refuses.tells.0 is).0 (All-nil IsUtf8),
-      rw refuses.item_is (IsFirst-only (λ text. HasOneTree (strip text)) HasFault text
-          refusal.fault (refuses.fault is)),
-    );
+    of_fact = λ is. absurd (omega (arith, is, refuses.fails.2));
+    of_bytes = λ is. (good, (refuses.tells.of_bytes is).1);
+    of_text = λ is.
+        let found = refuses.tells.of_text is in (good, found.1, found.2);
+    none = refuses.tells.none;
   };
   fails = (
     omega (arith, refuses.fails.2),
@@ -199,29 +186,30 @@ Refuses-text facts text refusal good refuses = record {
 
 -- of a call with words of which one is not UTF-8
 pub not_all_utf8 : (words : List (List ℕ)) (refusal : Refusal) → refusal.status ≡ not_utf8
-    → IsAbout not_utf8 (IsFirst IsUtf8 HasNoUtf8 words) refusal → ¬ All IsUtf8 words
+    → IsAbout not_utf8 (IsThatOfFirst IsUtf8 HasNoUtf8 words) refusal → ¬ All IsUtf8 words
 not_all_utf8 words refusal is (inl plain) all =
     omega (arith, is, ap (λ (r : Refusal). r.status) plain)
 not_all_utf8 words refusal is (inr (same, first)) all =
     let valid = first.has.1 in
-    let below = slice_get_within words refusal.item first.item first.stands in
-    let item = get_or_from_slice_get words refusal.item first.item first.item first.stands in
-    let good = rw item at (all refusal.item first.item below) in
+    let number = refusal.fault.item in
+    let below = slice_get_within words number first.item first.stands in
+    let item = get_or_from_slice_get words number first.item first.item first.stands in
+    let good = rw item at (all number first.item below) in
     valid.longest (length first.item) valid.short (rw (take-length first.item) good)
 
 -- What cannot be read, and its fault.
 
-same_fault : {A : Type 0} (offset : ℕ) (text : List ℕ) (error : ParseError A) (found : Fault)
+same_fault : {A : Type 0} (item offset : ℕ) (text : List ℕ) (error : ParseError A) (found : Fault)
     → fault_of {A = A} error ≡ fault_in text found
-    → error_fault {A = A} offset error ≡ c_fault offset found
-same_fault offset text error found is =
+    → error_fault {A = A} item offset error ≡ c_fault item offset found
+same_fault item offset text error found is =
     ap (λ (f : TextFault).
-    c_fault offset (record { cause = f.cause; start = f.start; end = f.end })) is
+    c_fault item offset (record { cause = f.cause; start = f.start; end = f.end })) is
 
 pub text_refused : {A : Type 0} (slice : List (Bor (List ℕ))) (index : ℕ) (d : Bor (List ℕ))
     (failed : Failure A)
     → IfSome (failure_of {A = A} failed) (IsFirstFault (views slice) index)
-    → IsAbout faulty (IsFirst (λ text. HasOneTree (strip text)) HasFault (views slice))
+    → IsAbout faulty (IsThatOfFirst (λ text. HasOneTree (strip text)) HasFault (views slice))
     (text_refusal {A = A} index (get_or slice index d).now failed)
 text_refused {A} slice index d (failure.Memory refused) first = inl refl
 text_refused {A} slice index d (failure.Parse error) first =
@@ -230,8 +218,8 @@ text_refused {A} slice index d (failure.Parse error) first =
     (omega (arith, below, length-map slice (λ text. text.now))))
     ∙ get_or_from_slice_get (views slice) index first.text [] first.stands in
     let (found, reads, is) = first.parses in
-    let fault = ap (λ text. error_fault {A = A} (strip_offset text) error) same
-    ∙ same_fault {A = A} (strip_offset first.text) _ error found is in
+    let fault = ap (λ text. error_fault {A = A} index (strip_offset text) error) same
+    ∙ same_fault {A = A} index (strip_offset first.text) _ error found is in
     inr (
       refl,
       record {
@@ -259,8 +247,8 @@ fact_refused {A} begin facts (facts_error.Memory refused) first = inl refl
 fact_refused {A} begin facts (facts_error.Faulty index error) first =
     let same = get_or_from_slice_get facts index first.fact [] first.stands in
     let (found, reads, is) = first.parses in
-    let fault = ap (λ fact. error_fault {A = A} (fact_offset fact) error) same
-    ∙ same_fault {A = A} (fact_offset first.fact) _ error found is in
+    let fault = ap (λ fact. error_fault {A = A} (begin + index) (fact_offset fact) error) same
+    ∙ same_fault {A = A} (begin + index) (fact_offset first.fact) _ error found is in
     inr (
       refl,
       (
@@ -305,18 +293,19 @@ pub IsAbout-piece : (facts : List (List ℕ)) (begin end : ℕ) (refusal : Refus
     → begin ≤ end → end ≤ length facts → All IsRustcFact (take begin facts)
     → IsAbout faulty_fact (IsFirstFrom begin IsRustcFact HasFactFault
     (slice_range facts begin end)) refusal
-    → IsAbout faulty_fact (IsFirst IsRustcFact HasFactFault facts) refusal
+    → IsAbout faulty_fact (IsThatOfFirst IsRustcFact HasFactFault facts) refusal
 IsAbout-piece facts begin end refusal rises within good =
     let piece = slice_range facts begin end in
     let front : length (take begin facts) ≡ begin =
     length-take-le begin facts (omega (arith, rises, within)) in
     IsAbout-weaker faulty_fact (IsFirstFrom begin IsRustcFact HasFactFault piece)
-    (IsFirst IsRustcFact HasFactFault facts) refusal (λ number fault from.
+    (IsThatOfFirst IsRustcFact HasFactFault facts) refusal (λ fault from.
     let all = IsFirst-behind IsRustcFact HasFactFault (take begin facts) (piece ++ drop end facts)
     from.0 fault good (IsFirst-front IsRustcFact HasFactFault piece (drop end facts) from.0 fault
     from.2) in
-    let at : number ≡ length (take begin facts) + from.0 = omega (arith, from.1, front) in
-    rw (three-parts facts begin end rises, at) all)
+    let number : fault.item ≡ length (take begin facts) + from.0 =
+    omega (arith, from.1, front) in
+    rw (three-parts facts begin end rises, number) all)
 
 -- there are as many parts as ends
 pub length-parts : {T : Type 0} (begin : ℕ) (ends : List ℕ) (items : List T)
@@ -324,21 +313,49 @@ pub length-parts : {T : Type 0} (begin : ℕ) (ends : List ℕ) (items : List T)
 length-parts begin [] items = refl
 length-parts begin (end ∷ ends) items = ap suc (length-parts end ends items)
 
--- the refusal of a text that has a fault
+-- the refusal of a text that is not UTF-8, or has a fault
+
+pub RefusesText-bytes : (text : List ℕ) (refusal : Refusal) → refusal.status ≡ not_utf8
+    → refusal.fault.item ≡ 0 → HasNoUtf8 text refusal.fault → RefusesText text refusal
+RefusesText-bytes text refusal is number has = record {
+  tells = record {
+    of_fact = λ other. absurd (omega (arith, is, other));
+    of_bytes = λ same. (
+      All-nil IsFact,
+      rw number (IsFirst-only IsUtf8 HasNoUtf8 text refusal.fault has),
+    );
+    of_text = λ other. absurd (omega (arith, is, other));
+    none = λ one two three. absurd (two is);
+  };
+  utf8 = λ other. absurd (other is);
+  fails = rw is (search rules);
+}
+
 pub RefusesText-failure : {A : Type 0} (text : List ℕ) (failed : Failure A) → IsUtf8 text
     → Answers {A = A} (strip text) (Err failed)
     → RefusesText text (text_refusal {A = A} 0 text failed)
 RefusesText-failure text (failure.Memory refused) utf8 answers = record {
-  tells = (λ is. absurd (omega (arith, is)), (λ is. absurd (omega (arith, is)), λ other. utf8));
-  utf8 = λ is. absurd (omega (arith, is));
-  fault = λ is. absurd (omega (arith, is));
-  item_is = refl;
+  tells = record {
+    of_fact = λ is. absurd (omega (arith, is));
+    of_bytes = λ is. absurd (omega (arith, is));
+    of_text = λ is. absurd (omega (arith, is));
+    none = λ one two three. refl;
+  };
+  utf8 = λ other. utf8;
   fails = search rules;
 }
-RefusesText-failure text (failure.Parse error) utf8 (found, is, reads) = record {
-  tells = (λ same. (utf8, found, reads), (λ is. absurd (omega (arith, is)), λ other. utf8));
-  utf8 = λ is. absurd (omega (arith, is));
-  fault = λ same. (found, reads, same_fault (strip_offset text) _ error found is);
-  item_is = refl;
+RefusesText-failure {A} text (failure.Parse error) utf8 (found, is, reads) = record {
+  tells = record {
+    of_fact = λ is. absurd (omega (arith, is));
+    of_bytes = λ is. absurd (omega (arith, is));
+    of_text = λ same. (
+      All-nil IsFact,
+      All-cons IsUtf8 text [] utf8 (All-nil IsUtf8),
+      IsFirst-only (λ text. HasOneTree (strip text)) HasFault text _
+          (found, reads, same_fault {A = A} 0 (strip_offset text) _ error found is),
+    );
+    none = λ one two three. absurd (three refl);
+  };
+  utf8 = λ other. utf8;
   fails = search rules;
 }

@@ -14,15 +14,26 @@ use Rattle.cfgx_c.specs.declared.fault.CfgxFault.{CfgxFault}
 
 -- each member is 0
 abbrev pub no_fault : CfgxFault
-no_fault = record { offset = 0; start = 0; end = 0; members = 0; reason = 0; terms = 0 }
+no_fault = record {
+  item = 0;
+  offset = 0;
+  start = 0;
+  end = 0;
+  members = 0;
+  reason = 0;
+  terms = 0;
+}
 
--- the fault of bytes of which the one at `start` is the first that is no UTF-8
-abbrev pub utf8_fault : ℕ → CfgxFault
-utf8_fault start = record no_fault { start = start; end = start + 1 }
+-- the fault of the item with this number, of which the byte at `start` is the first that is no
+-- UTF-8
+abbrev pub utf8_fault : ℕ → ℕ → CfgxFault
+utf8_fault item start = record no_fault { item = item; start = start; end = start + 1 }
 
--- the fault of a text as C sees it; `offset` bytes stand before the stripped text
-abbrev pub c_fault : ℕ → Fault → CfgxFault
-c_fault offset fault = record {
+-- the fault of the item with this number as C sees it; `offset` bytes stand before the stripped
+-- text
+abbrev pub c_fault : ℕ → ℕ → Fault → CfgxFault
+c_fault item offset fault = record {
+  item = item;
   offset = offset;
   start = fault.start;
   end = fault.end;
@@ -38,34 +49,23 @@ fact_offset fact = if is_some (unknown_text fact) then strip_offset (fact_text f
 
 -- the text is not UTF-8, and the fault has its first byte that is none
 abbrev pub HasNoUtf8 : List ℕ → CfgxFault → Type 0
-HasNoUtf8 text fault = (start : ℕ) × IsValidUpTo text start × (fault ≡ utf8_fault start)
+HasNoUtf8 text fault = (start : ℕ) × IsValidUpTo text start
+    × (fault ≡ utf8_fault fault.item start)
 
 -- the text has this fault
 abbrev pub HasFault : List ℕ → CfgxFault → Type 0
 HasFault text fault = (found : Fault) × ReadsAs (strip text) (Err found)
-    × (fault ≡ c_fault (strip_offset text) found)
+    × (fault ≡ c_fault fault.item (strip_offset text) found)
 
 -- the fact is neither read nor passed over, and has this fault
 abbrev pub HasFactFault : List ℕ → CfgxFault → Type 0
 HasFactFault fact fault = ¬ IsRustcFact fact × (found : Fault)
-    × ReadsAs (strip (fact_text fact)) (Err found) × (fault ≡ c_fault (fact_offset fact) found)
+    × ReadsAs (strip (fact_text fact)) (Err found)
+    × (fault ≡ c_fault fault.item (fact_offset fact) found)
 
 -- a text that is a condition
 abbrev pub IsCondition : List ℕ → Type 0
 IsCondition text = IsUtf8 text × HasOneTree (strip text)
-
--- a text in UTF-8 that is no condition
-abbrev pub IsFaulty : List ℕ → Type 0
-IsFaulty text = IsUtf8 text × (fault : Fault) × ReadsAs (strip text) (Err fault)
-
--- the status of a call says whether the text is UTF-8
-abbrev pub TellsUtf8 : List ℕ → ℕ → Type 0
-TellsUtf8 text status =
-    (status ≡ not_utf8 → ¬ IsUtf8 text) × (status ≢ not_utf8 → IsUtf8 text)
-
--- the status of a call says that the text is faulty, that it is not UTF-8, or that it is UTF-8
-abbrev pub TellsOf : List ℕ → ℕ → Type 0
-TellsOf text status = (status ≡ faulty → IsFaulty text) × TellsUtf8 text status
 
 -- a fact that is read, or passed over
 abbrev pub IsFact : List ℕ → Type 0
@@ -79,18 +79,17 @@ pub record IsFirst (Good : List ℕ → Type 0) (Has : List ℕ → CfgxFault �
   pub before : All Good (take number items)
   pub has : Has item fault
 
--- the number and the fault of the first fact that is not UTF-8; or all are UTF-8, and these are
--- those of the first faulty one
-abbrev pub IsFirstOfFacts : List (List ℕ) → ℕ → CfgxFault → Type 0
-IsFirstOfFacts facts number fault = IsFirst IsUtf8 HasNoUtf8 facts number fault
-    ⊎ (All IsUtf8 facts × IsFirst IsRustcFact HasFactFault facts number fault)
+-- the fault of the first fact that is not UTF-8; or all are UTF-8, and that of the first faulty one
+abbrev pub IsFirstOfFacts : List (List ℕ) → CfgxFault → Type 0
+IsFirstOfFacts facts fault = IsFirst IsUtf8 HasNoUtf8 facts fault.item fault
+    ⊎ (All IsUtf8 facts × IsFirst IsRustcFact HasFactFault facts fault.item fault)
 
--- What a status says of the facts and the texts of a call. It is about the fact or the text with
--- this number, which has this fault. All facts come before all texts.
-pub record Tells (facts texts : List (List ℕ)) (status number : ℕ) (fault : CfgxFault) : Type 0
-  where
-    pub of_fact : status ≡ faulty_fact → IsFirstOfFacts facts number fault
-    pub of_bytes : status ≡ not_utf8
-        → All IsFact facts × IsFirst IsUtf8 HasNoUtf8 texts number fault
-    pub of_text : status ≡ faulty → All IsFact facts × All IsUtf8 texts
-        × IsFirst (λ text. HasOneTree (strip text)) HasFault texts number fault
+-- What a status and a fault say of the facts and the texts of a call. All facts come before all
+-- texts. With a status that is about none of them there is no fault.
+pub record Tells (facts texts : List (List ℕ)) (status : ℕ) (fault : CfgxFault) : Type 0 where
+  pub of_fact : status ≡ faulty_fact → IsFirstOfFacts facts fault
+  pub of_bytes : status ≡ not_utf8
+      → All IsFact facts × IsFirst IsUtf8 HasNoUtf8 texts fault.item fault
+  pub of_text : status ≡ faulty → All IsFact facts × All IsUtf8 texts
+      × IsFirst (λ text. HasOneTree (strip text)) HasFault texts fault.item fault
+  pub none : status ≢ faulty_fact → status ≢ not_utf8 → status ≢ faulty → fault ≡ no_fault

@@ -1,3 +1,4 @@
 -- The contracts of private functions cite these definitions. No public contract does.
 pub mod Applying
 pub mod Refusals
+pub mod Spans

@@ -1,6 +1,6 @@
 //! The answers of the facts of a target to the predicates of a condition.
 
-ghost use Rattle.std.specs.Prelude.{◌≡◌, ◌≢◌, ◌↔◌, ◌≤◌, ℕ, [], ◌∷◌, IfErr, IfOk, length};
+ghost use Rattle.std.specs.Prelude.{◌≡◌, ◌≢◌, ◌↔◌, ◌≤◌, [], ◌∷◌, IfErr, IfOk, length};
 ghost use Rattle.std.specs.List.{All, AllZip};
 ghost use Rattle.cfgx_grammar.specs.Answer.{HasOneTree};
 ghost use Rattle.cfgx_grammar.specs.Tree.{asked};
@@ -11,12 +11,11 @@ ghost use Rattle.cfgx_c.specs.Ends.{AreEnds, parts};
 ghost use Rattle.cfgx_c.specs.Faults.{IsCondition, IsFact, Tells};
 ghost use Rattle.cfgx_c.specs.Status.{bad_ends, done, faulty_fact, miscounted, no_value, too_large};
 ghost use Rattle.cfgx_c.specs.Status.{wrong_use};
-ghost use Rattle.cfgx_c.specs.declared.fault.CfgxFault.{CfgxFault};
 ghost use Rattle.cfgx_c.specs.internal.Refusals.{Refuses};
 
 use crate::bytes::fill_values;
 use crate::ends::{are_ends, texts};
-use crate::fault::Refusal;
+use crate::fault::{CfgxFault, Refusal};
 use crate::reading::{read_condition, read_facts, read_text};
 use crate::status::{BAD_ENDS, DONE, FAULTY_FACT};
 use cfg_expr::Predicate;
@@ -101,7 +100,9 @@ fn find_answers(
 /// - `FAULTY`: the text has a fault.
 ///
 /// Returns `OUT_OF_MEMORY` if memory was refused, unless the ends are bad. Unless the status is
-/// `DONE`, `needed` becomes 0 and `answers` is unchanged.
+/// `DONE`, `needed` becomes 0 and `answers` is unchanged. With the last three of the list `fault`
+/// becomes what is wrong with the first such fact or with the text. With every other status each
+/// member of `fault` becomes 0.
 #[unsafe(no_mangle)]
 pub extern "C" fn cfgx_answers(
     alloc: Global,
@@ -111,19 +112,20 @@ pub extern "C" fn cfgx_answers(
     otherwise: u8,
     answers: &mut [u8],
     needed: &mut usize,
+    fault: &mut CfgxFault,
 ) -> u32
     ensures done { result ≡ done → All IsFact (parts fact_ends.now facts.now)
         × IsCondition text.now
         × FillsAnswers text.now (parts fact_ends.now facts.now) otherwise answers.old answers.new
         needed.new }
-    ensures read { (number : ℕ) × (fault : CfgxFault)
-        × Tells (parts fact_ends.now facts.now) (text.now ∷ []) result number fault }
+    ensures read { Tells (parts fact_ends.now facts.now) (text.now ∷ []) result fault.new }
     ensures bad_ends { (result ≡ bad_ends) ↔ ¬ AreEnds fact_ends.now (length facts.now) }
     ensures kept { result ≢ done → (answers.new ≡ answers.old) × (needed.new ≡ 0) }
     ensures status { (result ≤ faulty_fact) × (result ≢ wrong_use) × (result ≢ miscounted)
         × (result ≢ no_value) × (result ≢ too_large) }
 {
     *needed = 0;
+    *fault = CfgxFault::default();
     if !are_ends(fact_ends, facts.len()) {
         return BAD_ENDS;
     }
@@ -132,6 +134,6 @@ pub extern "C" fn cfgx_answers(
             *needed = fill_values(answers, found.as_slice());
             DONE
         }
-        Err(refusal) => refusal.status,
+        Err(refusal) => refusal.report(fault),
     }
 }

@@ -5,17 +5,16 @@ ghost use Rattle.std.specs.List.{All};
 ghost use Rattle.cfgx_c.specs.Audit.{AreAllEnds, FillsValues, ValuesBy};
 ghost use Rattle.cfgx_c.specs.Ends.{parts};
 ghost use Rattle.cfgx_c.specs.Faults.{IsCondition, IsFact, Tells};
-ghost use Rattle.cfgx_c.specs.Status.{bad_ends, done, faulty, faulty_fact, miscounted, no_value};
-ghost use Rattle.cfgx_c.specs.Status.{not_utf8, too_large, wrong_use};
-ghost use Rattle.cfgx_c.specs.declared.fault.CfgxFault.{CfgxFault};
+ghost use Rattle.cfgx_c.specs.Status.{bad_ends, done, faulty_fact, miscounted, no_value, too_large};
+ghost use Rattle.cfgx_c.specs.Status.{wrong_use};
 ghost use Rattle.cfgx_c.specs.internal.Refusals.{Refuses};
 
 use crate::answers::otherwise_of;
 use crate::bytes::fill_values;
 use crate::ends::{are_ends, texts};
-use crate::fault::Refusal;
+use crate::fault::{CfgxFault, Refusal};
 use crate::reading::{read_targets, text_refusal};
-use crate::status::{BAD_ENDS, DONE, FAULTY_FACT, NOT_UTF8, OUT_OF_MEMORY, TOO_LARGE};
+use crate::status::{BAD_ENDS, DONE, FAULTY_FACT, NOT_UTF8, TOO_LARGE};
 use cfgx_engine::resolve::{Otherwise, audit_facts};
 use std::alloc::Global;
 
@@ -60,14 +59,14 @@ fn find_values(
 ///
 /// - `BAD_ENDS`: an end is less than the one before it, or the last one is not the number of items.
 /// - `TOO_LARGE`: the number of values does not fit in a `usize`.
-/// - `FAULTY_FACT`: a fact is not UTF-8, and `place` becomes the number of the first one; or all
-///   are, and one is faulty, and `place` becomes the number of the first one.
-/// - `NOT_UTF8`: a text is not UTF-8. `place` becomes the number of the first one.
-/// - `FAULTY`: a text has a fault. `place` becomes the number of the first one.
+/// - `FAULTY_FACT`: a fact is not UTF-8; or all are, and one is faulty.
+/// - `NOT_UTF8`: a text is not UTF-8.
+/// - `FAULTY`: a text has a fault.
 ///
-/// Returns `OUT_OF_MEMORY` if memory was refused, unless the ends are bad or the number of values
-/// is too large. Unless the status is `DONE`, `needed` becomes 0 and `values` is unchanged. Unless
-/// it is `NOT_UTF8`, `FAULTY` or `FAULTY_FACT`, `place` is unchanged.
+/// With the last three `fault` becomes what is wrong with the first one. Returns `OUT_OF_MEMORY` if
+/// memory was refused, unless the ends are bad or the number of values is too large. Unless the
+/// status is `DONE`, `needed` becomes 0 and `values` is unchanged. With every other status each
+/// member of `fault` becomes 0.
 #[unsafe(no_mangle)]
 pub extern "C" fn cfgx_audit(
     alloc: Global,
@@ -79,27 +78,26 @@ pub extern "C" fn cfgx_audit(
     otherwise: u8,
     values: &mut [u8],
     needed: &mut usize,
-    place: &mut usize,
+    fault: &mut CfgxFault,
 ) -> u32
     ensures done { result ≡ done → All IsFact (parts fact_ends.now facts.now)
         × All IsCondition (parts text_ends.now texts.now)
         × FillsValues (parts text_ends.now texts.now)
         (parts target_ends.now (parts fact_ends.now facts.now)) otherwise values.old values.new
         needed.new }
-    ensures read { (fault : CfgxFault) × Tells (parts fact_ends.now facts.now)
-        (parts text_ends.now texts.now) result place.new fault }
+    ensures read { Tells (parts fact_ends.now facts.now) (parts text_ends.now texts.now) result
+        fault.new }
     ensures bad_ends { (result ≡ bad_ends)
         ↔ ¬ AreAllEnds texts.now text_ends.now facts.now fact_ends.now target_ends.now }
     ensures too_large { (result ≡ too_large)
         ↔ (AreAllEnds texts.now text_ends.now facts.now fact_ends.now target_ends.now
         × (2 ^ 64 ≤ length text_ends.now * length target_ends.now)) }
     ensures kept { result ≢ done → (values.new ≡ values.old) × (needed.new ≡ 0) }
-    ensures place { result ≢ faulty → result ≢ not_utf8 → result ≢ faulty_fact
-        → place.new ≡ place.old }
     ensures status { (result ≤ faulty_fact) × (result ≢ wrong_use) × (result ≢ miscounted)
         × (result ≢ no_value) }
 {
     *needed = 0;
+    *fault = CfgxFault::default();
     if !are_ends(text_ends, texts.len())
         || !are_ends(fact_ends, facts.len())
         || !are_ends(target_ends, fact_ends.len())
@@ -122,11 +120,6 @@ pub extern "C" fn cfgx_audit(
             *needed = fill_values(values, found.as_slice());
             DONE
         }
-        Err(refusal) => {
-            if refusal.status != OUT_OF_MEMORY {
-                *place = refusal.item;
-            }
-            refusal.status
-        }
+        Err(refusal) => refusal.report(fault),
     }
 }

@@ -1,13 +1,13 @@
 //! The steps and the predicates of a condition.
 
-ghost use Rattle.std.specs.Prelude.{◌≡◌, ◌≢◌, ◌≤◌, IfErr, IfOk, OnErr};
+ghost use Rattle.std.specs.Prelude.{◌≡◌, ◌≢◌, ◌≤◌, [], ◌∷◌, IfErr, IfOk, OnErr};
 ghost use Rattle.std.specs.Str.{IsUtf8};
-ghost use Rattle.cfgx_c.specs.Faults.{TellsOf};
+ghost use Rattle.cfgx_c.specs.Faults.{Tells};
 ghost use Rattle.cfgx_c.specs.Status.{done, not_utf8, wrong_use};
 ghost use Rattle.cfgx_c.specs.Steps.{Compiles};
 ghost use Rattle.cfgx_c.specs.internal.Refusals.{RefusesText};
 
-use crate::fault::Refusal;
+use crate::fault::{CfgxFault, Refusal};
 use crate::predicates::{CfgxPredicate, write_predicates};
 use crate::reading::{read_condition, read_text};
 use crate::status::DONE;
@@ -50,6 +50,7 @@ fn compile(
 /// little room, and writes their numbers to `steps_needed` and `predicates_needed`. Returns
 /// `FAULTY` if the text has a fault, `NOT_UTF8` if it is not UTF-8, and `OUT_OF_MEMORY` if memory
 /// was refused. Unless the status is `DONE`, both numbers become 0, and both buffers are unchanged.
+/// `fault` becomes what `cfgx_check` makes of it.
 #[unsafe(no_mangle)]
 pub extern "C" fn cfgx_compile(
     alloc: Global,
@@ -58,22 +59,25 @@ pub extern "C" fn cfgx_compile(
     steps_needed: &mut usize,
     predicates: &mut [CfgxPredicate],
     predicates_needed: &mut usize,
+    fault: &mut CfgxFault,
 ) -> u32
     ensures done { result ≡ done → Compiles text.now steps.old steps.new steps_needed.new
         predicates.old predicates.new predicates_needed.new }
-    ensures read { TellsOf text.now result }
+    ensures read { Tells [] (text.now ∷ []) result fault.new }
+    ensures utf8 { result ≢ not_utf8 → IsUtf8 text.now }
     ensures kept { result ≢ done → (steps.new ≡ steps.old) × (predicates.new ≡ predicates.old)
         × (steps_needed.new ≡ 0) × (predicates_needed.new ≡ 0) }
     ensures status { (result ≤ not_utf8) × (result ≢ wrong_use) }
 {
     *steps_needed = 0;
     *predicates_needed = 0;
+    *fault = CfgxFault::default();
     match compile(alloc, text, steps, predicates) {
         Ok((step_count, count)) => {
             *steps_needed = step_count;
             *predicates_needed = count;
             DONE
         }
-        Err(refusal) => refusal.status,
+        Err(refusal) => refusal.report(fault),
     }
 }

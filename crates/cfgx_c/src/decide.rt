@@ -1,16 +1,18 @@
 //! The decision of a condition over answers.
 
-ghost use Rattle.std.specs.Prelude.{◌≡◌, ◌≢◌, ◌≤◌, ◌++◌, IfOk, drop, length, map};
+ghost use Rattle.std.specs.Prelude.{◌≡◌, ◌≢◌, ◌≤◌, ◌++◌, [], ◌∷◌, IfOk, drop, length, map};
+ghost use Rattle.std.specs.Str.{IsUtf8};
 ghost use Rattle.cfgx_c.specs.Buffer.{Fills};
 ghost use Rattle.cfgx_syntax.specs.Stripping.{strip};
 ghost use Rattle.cfg_expr.specs.Given.{AreAnswersTo};
 ghost use Rattle.cfg_expr.specs.Deciding.{Decides};
-ghost use Rattle.cfgx_c.specs.Faults.{TellsOf};
+ghost use Rattle.cfgx_c.specs.Faults.{Tells};
 ghost use Rattle.cfgx_c.specs.Decide.{DecidesOver, filling_bytes, fillings_in, value_in};
-ghost use Rattle.cfgx_c.specs.Status.{done, miscounted, wrong_use};
+ghost use Rattle.cfgx_c.specs.Status.{done, miscounted, not_utf8, wrong_use};
 ghost use Rattle.cfgx_c.specs.Value.{HasOtherCount, answer_of, byte_of_value};
 
 use crate::bytes::{answers_of, byte_of_value};
+use crate::fault::CfgxFault;
 use crate::reading::read_answered;
 use crate::status::{DONE, OUT_OF_MEMORY};
 use cfg_expr::Decision;
@@ -80,7 +82,8 @@ fn decide_over_bytes(
 /// `needed` becomes 0.
 ///
 /// Returns `FAULTY`, `NOT_UTF8`, `OUT_OF_MEMORY` and `MISCOUNTED` as `cfgx_value` does. With these
-/// `needed` becomes 0, and `fillings` and `value` stay as they were.
+/// `needed` becomes 0, `fillings` stays as it was, and `value` becomes 2. `fault` becomes what
+/// `cfgx_check` makes of it.
 #[unsafe(no_mangle)]
 pub extern "C" fn cfgx_decide(
     alloc: Global,
@@ -89,21 +92,25 @@ pub extern "C" fn cfgx_decide(
     fillings: &mut [u8],
     needed: &mut usize,
     value: &mut u8,
+    fault: &mut CfgxFault,
 ) -> u32
     ensures done { result ≡ done → DecidesOver (strip text.now) answers.now fillings.old
         fillings.new needed.new value.new }
     ensures counted { result ≡ done → AreAnswersTo answers.now (strip text.now) }
-    ensures read { TellsOf text.now result }
+    ensures read { Tells [] (text.now ∷ []) result fault.new }
+    ensures utf8 { result ≢ not_utf8 → IsUtf8 text.now }
     ensures miscounted { result ≡ miscounted → HasOtherCount (strip text.now) answers.now }
     ensures kept { result ≢ done → (fillings.new ≡ fillings.old) × (needed.new ≡ 0)
-        × (value.new ≡ value.old) }
+        × (value.new ≡ byte_of_value None) }
     ensures status { (result ≤ miscounted) × (result ≢ wrong_use) }
 {
     *needed = 0;
+    *value = byte_of_value(None);
+    *fault = CfgxFault::default();
     let mut reader = ConditionReader::new(alloc);
     let condition = match read_answered(&mut reader, text, answers) {
         Ok(condition) => condition,
-        Err(refusal) => return refusal.status,
+        Err(refusal) => return refusal.report(fault),
     };
     let Ok(decision) = decide_over_bytes(alloc, &condition, answers) else {
         return OUT_OF_MEMORY;

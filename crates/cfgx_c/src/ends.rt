@@ -4,8 +4,8 @@ ghost use Rattle.std.specs.Prelude.{◌≡◌, ◌↔◌, All, IfErr, IfOk, IsTr
 ghost use Rattle.std.specs.Str.{IsUtf8};
 ghost use Rattle.std.specs.Str.Lossy.{utf8_valid_len};
 ghost use Rattle.cfgx_c.specs.Ends.{AreEnds, parts};
-ghost use Rattle.cfgx_c.specs.Faults.{HasNoUtf8, IsFirst};
-ghost use Rattle.cfgx_c.specs.internal.Refusals.{IsAbout, views};
+ghost use Rattle.cfgx_c.specs.Faults.{HasNoUtf8};
+ghost use Rattle.cfgx_c.specs.internal.Refusals.{IsAbout, IsThatOfFirst, views};
 
 use crate::fault::{CfgxFault, Refusal};
 use std::alloc::Global;
@@ -48,7 +48,7 @@ pub(crate) fn texts<'a>(
     ensures ok { IfOk result (λ texts. (views texts.items ≡ parts ends.now bytes.now)
         × All IsUtf8 (parts ends.now bytes.now)) }
     ensures err { IfErr result
-        (IsAbout status (IsFirst IsUtf8 HasNoUtf8 (parts ends.now bytes.now))) }
+        (IsAbout status (IsThatOfFirst IsUtf8 HasNoUtf8 (parts ends.now bytes.now))) }
 {
     let front = utf8_front(bytes);
     let mut texts = Vec::with_capacity(alloc, ends.len())?;
@@ -59,8 +59,7 @@ pub(crate) fn texts<'a>(
             let start = front.floor_char_boundary(end) - begin;
             return Err(Refusal {
                 status,
-                item: texts.len(),
-                fault: CfgxFault::at_byte(start),
+                fault: CfgxFault::at_byte(texts.len(), start),
             });
         }
         texts.push(&front[begin..end])?;

@@ -9,11 +9,14 @@ use crate::status::OUT_OF_MEMORY;
 use cfg_expr::error::ParseError;
 use std::alloc::{AllocError, AllocFailed};
 
-/// The fault of a text. Offsets are in bytes.
+/// The fault of a text or a fact. Offsets are in bytes.
 #[repr(C)]
 #[derive(Clone, Copy, Debug, Default)]
 pub struct CfgxFault {
-    /// The offset of the stripped text in the text: 4 if an outer `cfg( )` was stripped, else 0
+    /// The number of the text among those of the call, or of the fact among all facts, from 0 on
+    pub item: usize,
+    /// The offset of the stripped text in the text: 4 if an outer `cfg( )` was stripped, else 0. A
+    /// `?` in front of a fact is one byte more
     pub offset: usize,
     /// The start of the span, in the stripped text
     pub start: usize,
@@ -28,27 +31,31 @@ pub struct CfgxFault {
 }
 
 impl CfgxFault {
-    /// Returns the fault of bytes of which the one at `start` is the first that is no UTF-8.
-    pub(crate) fn at_byte(start: usize) -> CfgxFault
+    /// Returns the fault of the item with this number, of which the byte at `start` is the first
+    /// that is no UTF-8.
+    pub(crate) fn at_byte(item: usize, start: usize) -> CfgxFault
         requires { start + 1 < 2 ^ 64 }
-        ensures { result ≡ utf8_fault start }
+        ensures { result ≡ utf8_fault item start }
     {
         CfgxFault {
+            item,
             start,
             end: start + 1,
             ..CfgxFault::default()
         }
     }
 
-    /// Returns the fault of a text as C sees it. `offset` bytes stand before the stripped text.
-    pub(crate) fn of(offset: usize, error: &ParseError) -> CfgxFault
-        ensures { result ≡ c_fault offset (record {
+    /// Returns the fault of the item with this number as C sees it. `offset` bytes stand before the
+    /// stripped text.
+    pub(crate) fn of(item: usize, offset: usize, error: &ParseError) -> CfgxFault
+        ensures { result ≡ c_fault item offset (record {
           cause = cause_of error.now.reason;
           start = error.now.span.start;
           end = error.now.span.end;
         }) }
     {
         CfgxFault {
+            item,
             offset,
             start: error.span.start,
             end: error.span.end,
@@ -64,9 +71,7 @@ impl CfgxFault {
 pub(crate) struct Refusal {
     /// The status of the call
     pub(crate) status: u32,
-    /// The number of the text or the fact that the status is about, from 0 on, else 0
-    pub(crate) item: usize,
-    /// The fault of this text or fact, if there is one
+    /// The fault of the text or the fact that the status is about, else zeros
     pub(crate) fault: CfgxFault,
 }
 
@@ -77,9 +82,17 @@ impl Refusal {
     {
         Refusal {
             status,
-            item: 0,
             fault: CfgxFault::default(),
         }
+    }
+
+    /// Writes the fault to `fault`, and returns the status.
+    pub(crate) fn report(self, fault: &mut CfgxFault) -> u32
+        ensures status { result ≡ self.status }
+        ensures fault { fault.new ≡ self.fault }
+    {
+        *fault = self.fault;
+        self.status
     }
 }
 

@@ -8,10 +8,11 @@ ghost use Rattle.cfgx_grammar.specs.Answer.{HasOneTree};
 ghost use Rattle.cfg_expr.specs.Given.{AreAnswersTo};
 ghost use Rattle.cfgx_engine.specs.Facts.{IsRustcFact, NameAlike, texts_of};
 ghost use Rattle.cfgx_c.specs.Ends.{AreEnds, parts};
-ghost use Rattle.cfgx_c.specs.Faults.{HasFactFault, IsFirst, fact_offset};
+ghost use Rattle.cfgx_c.specs.Faults.{HasFactFault, fact_offset};
 ghost use Rattle.cfgx_c.specs.Status.{faulty_fact};
-ghost use Rattle.cfgx_c.specs.internal.Refusals.{FactStands, IsAbout, IsFirstFrom, RefusesFor};
-ghost use Rattle.cfgx_c.specs.internal.Refusals.{RefusesText, fact_refusal, text_refusal, views};
+ghost use Rattle.cfgx_c.specs.internal.Refusals.{FactStands, IsAbout, IsFirstFrom, IsThatOfFirst};
+ghost use Rattle.cfgx_c.specs.internal.Refusals.{RefusesFor, RefusesText, fact_refusal, text_refusal};
+ghost use Rattle.cfgx_c.specs.internal.Refusals.{views};
 
 use crate::fault::{CfgxFault, Refusal};
 use crate::status::{FAULTY, FAULTY_FACT, MISCOUNTED, NOT_UTF8, OUT_OF_MEMORY};
@@ -31,8 +32,8 @@ pub(crate) fn read_text(text: &[u8]) -> Result<&str, Refusal>
     match str::from_utf8(text) {
         Ok(text) => Ok(text),
         Err(error) => Err(Refusal {
-            fault: CfgxFault::at_byte(error.valid_up_to()),
-            ..Refusal::plain(NOT_UTF8)
+            status: NOT_UTF8,
+            fault: CfgxFault::at_byte(0, error.valid_up_to()),
         }),
     }
 }
@@ -44,8 +45,7 @@ pub(crate) fn text_refusal(item: usize, text: &str, failure: Failure) -> Refusal
     match failure {
         Failure::Parse(error) => Refusal {
             status: FAULTY,
-            item,
-            fault: CfgxFault::of(strip(text).offset, &error),
+            fault: CfgxFault::of(item, strip(text).offset, &error),
         },
         Failure::Memory(_) => Refusal::plain(OUT_OF_MEMORY),
     }
@@ -107,8 +107,7 @@ fn fact_refusal(begin: usize, facts: &[&str], error: FactsError) -> Refusal
     match error {
         FactsError::Faulty { index, error } => Refusal {
             status: FAULTY_FACT,
-            item: begin + index,
-            fault: CfgxFault::of(fact_offset(facts[index]), &error),
+            fault: CfgxFault::of(begin + index, fact_offset(facts[index]), &error),
         },
         FactsError::Memory(_) => Refusal::plain(OUT_OF_MEMORY),
     }
@@ -144,7 +143,7 @@ pub(crate) fn read_targets(
         × AllZip (λ facts read. NameAlike read (texts_of facts))
         (parts target_ends.now (views facts.now)) targets.items) }
     ensures err { IfErr result
-        (IsAbout faulty_fact (IsFirst IsRustcFact HasFactFault (views facts.now))) }
+        (IsAbout faulty_fact (IsThatOfFirst IsRustcFact HasFactFault (views facts.now))) }
 {
     let mut targets = Vec::with_capacity(alloc, target_ends.len())?;
     let mut begin = 0;

@@ -2,7 +2,6 @@
 use Rattle.std.proofs.Common.{◌≡◌, ◌∙◌, ◌++◌, ap, arith, drop, inl, inr, length, map, sym}
 use Rattle.std.proofs.lemmas.List.{length-map}
 use Rattle.cfgx_grammar.proofs.Answering.{only_tree}
-use Rattle.cfgx_grammar.specs.Tree.{asked}
 use Rattle.cfgx_syntax.specs.Stripping.{strip_offset}
 use Rattle.cfg_expr.specs.Steps.{steps_of}
 use Rattle.cfgx_c.specs.{Predicates.c_predicate, Steps.c_step}
@@ -12,8 +11,7 @@ use Rattle.cfgx_c.proofs.compile.compile.Goals as goal
 
 pub write_predicates-requires-clause-located : goal.write_predicates-requires-clause-located
 write_predicates-requires-clause-located c =
-    let located = rw c.in_ok-condition.ensures.ok.0 at c.located_predicates-located.ensures in
-    (asked located.one.tree, located.each)
+    rw c.in_ok-condition.ensures.ok.0 at c.located_predicates-located.ensures
 
 -- one buffer has too little room
 pub returns-then-step_count-steps-clause-ok : goal.returns-then-step_count-steps-clause-ok

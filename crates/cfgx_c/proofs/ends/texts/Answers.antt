@@ -5,7 +5,7 @@ use Rattle.std.proofs.lemmas.List.{drop_all, length-map, map-append}
 use Rattle.std.proofs.lemmas.List.Elements.{All-nil, All-push}
 use Rattle.std.proofs.lemmas.Str.{IsCharBoundary-start}
 use Rattle.std.specs.{List.slice_range, Str.IsUtf8}
-use Rattle.cfgx_c.specs.Faults.{HasNoUtf8}
+use Rattle.cfgx_c.specs.Faults.{HasNoUtf8, utf8_fault}
 use Rattle.cfgx_c.specs.internal.Refusals.{views}
 use Rattle.cfgx_c.proofs.EndsLemmas.{begin-le, next_end, next_part}
 use Rattle.cfgx_c.proofs.RefusalLemmas.{IsFirst-seam}
@@ -51,7 +51,8 @@ returns-then-not-is_char_boundary-clause-err c =
     front.ensures.utf8 c.loop-end.begin end c.floor_char_boundary.result next.0
     (begin-le _ _ _ next.1) so_far.cut (λ stands. cc (test.1 stands)) floor.bound floor.boundary
     floor.nearest in
-    let count : c.len.result ≡ length (views c.loop-end.texts.items) =
+    let found = views c.loop-end.texts.items in
+    let count : c.len.result ≡ length found =
     omega (
       arith,
       c.len.ensures,
@@ -61,10 +62,9 @@ returns-then-not-is_char_boundary-clause-err c =
     ) in
     inr (
       refl,
-      rw (next_part _ _ _ _ _ c.loop-end-test.true so_far.whole, count)
-          (IsFirst-seam IsUtf8 HasNoUtf8 (views c.loop-end.texts.items)
-          (slice_range c.args.bytes.now c.loop-end.begin end) _ c.at_byte.result so_far.utf8
-          (_, valid, c.at_byte.ensures)),
+      rw (c.at_byte.ensures, next_part _ _ _ _ _ c.loop-end-test.true so_far.whole, count)
+          (IsFirst-seam IsUtf8 HasNoUtf8 found (slice_range c.args.bytes.now c.loop-end.begin end)
+          _ (utf8_fault (length found) _) so_far.utf8 (_, valid, refl)),
     )
 
 pub returns-clause-ok : goal.returns-clause-ok

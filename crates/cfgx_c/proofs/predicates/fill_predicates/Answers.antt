@@ -2,7 +2,6 @@
 use Rattle.std.proofs.Common.{◌∙◌, length, map, refl, sym}
 use Rattle.std.proofs.lemmas.Bool.{le-leb, lt-leb}
 use Rattle.std.proofs.lemmas.List.{length-map}
-use Rattle.cfgx_grammar.specs.Tree.{asked}
 use Rattle.cfgx_syntax.specs.Stripping.{strip_offset}
 use Rattle.cfgx_c.specs.Predicates.{c_predicate}
 use Rattle.cfgx_c.proofs.Described.{ListsPredicates-located}
@@ -10,8 +9,7 @@ use Rattle.cfgx_c.proofs.predicates.fill_predicates.Goals as goal
 
 pub write_predicates-requires-clause-located : goal.write_predicates-requires-clause-located
 write_predicates-requires-clause-located c =
-    let located = rw c.in_ok-condition.ensures.ok.0 at c.located_predicates-predicates.ensures in
-    (asked located.one.tree, located.each)
+    rw c.in_ok-condition.ensures.ok.0 at c.located_predicates-predicates.ensures
 
 -- there is too little room
 pub returns-then-needed-buffer-clause-ok : goal.returns-then-needed-buffer-clause-ok

@@ -1,32 +1,37 @@
 -- One predicate more, and in the end all.
 use Rattle.std.proofs.Common.{◌≡◌, ◌∙◌, ◌+◌, ◌<◌, ◌∷◌, ◌++◌, [], append-nil, append_assoc, ap}
-use Rattle.std.proofs.Common.{arith}
+use Rattle.std.proofs.Common.{arith, refl}
 use Rattle.std.proofs.Common.{drop, length, map, sym}
 use Rattle.std.proofs.lemmas.List.{length-append}
 use Rattle.cfgx_syntax.specs.Stripping.{strip}
 use Rattle.cfgx_c.specs.Predicates.{c_predicate}
 use Rattle.cfgx_c.proofs.BufferLemmas.{written_next}
-use Rattle.cfgx_c.proofs.Described.{first_located}
+use Rattle.cfgx_c.proofs.SpanLemmas.{all_spans}
 use Rattle.cfgx_c.proofs.predicates.write_predicates.Goals as goal
 
 pub c_predicate-requires : goal.c_predicate-requires
 c_predicate-requires c =
-    let (questions, are) = c.loop-predicate.invariant.located in
-    let (key, value, others, rest) =
-    first_located _ questions _ _ (rw c.in-Some.ensures.steps at are) in (
+    let spans = rw c.in-Some.ensures.steps at c.loop-predicate.invariant.spans in (
       strip c.args.text.now,
-      key,
-      value,
+      spans.0,
       omega (arith, ap length c.strip-offset.ensures.text, c.strip-offset.ensures.stands.1),
     )
+
+pub loop-predicate-init : goal.loop-predicate-init
+loop-predicate-init c = record {
+  front = [];
+  whole = refl;
+  count = refl;
+  shown = refl;
+  spans = rw (← c.into_iter-predicate-iterator.ensures.into_iter_gives)
+      (all_spans (strip c.args.text.now) c.args.predicates c.requires.located);
+}
 
 pub loop-predicate-preserved : goal.loop-predicate-preserved
 loop-predicate-preserved c =
     let so_far = c.loop-predicate.invariant in
     let offset = c.strip-offset.result.offset in
-    let (questions, are) = so_far.located in
-    let (key, value, others, rest) =
-    first_located _ questions _ _ (rw c.in-Some.ensures.steps at are) in
+    let spans = rw c.in-Some.ensures.steps at so_far.spans in
     let whole = rw c.in-Some.ensures.steps at so_far.whole in
     let long = ap length whole in
     let inside : c.loop-predicate.written < length c.args.buffer.now = omega (
@@ -44,7 +49,7 @@ loop-predicate-preserved c =
       shown = rw c.c_predicate.ensures (written_next (c_predicate offset) so_far.front
           c.in-Some.predicate c.args.buffer.now c.loop-predicate.buffer c.loop-predicate.written
           so_far.count inside so_far.shown);
-      located = (others, rest);
+      spans = spans.1;
     }
 
 pub returns : goal.returns

@@ -1,5 +1,5 @@
 -- The numbers of answers and of predicates differ.
-use Rattle.std.proofs.Common.{ap, arith, length, rules}
+use Rattle.std.proofs.Common.{ap, arith, length, refl, rules}
 use Rattle.cfgx_syntax.specs.Stripping.{strip}
 use Rattle.cfgx_c.specs.Value.{HasOtherCount}
 use Rattle.cfgx_c.proofs.reading.read_answered.Goals as goal
@@ -15,10 +15,13 @@ returns-then-left-answers-clause-err c =
           omega (arith, c.if-left-answers.true, c.left.ensures, ap length asks.1, same),
     ) in
     rw c.plain.ensures (record {
-      tells = (
-        λ is. absurd (omega (arith, is)),
-        (λ is. absurd (omega (arith, is)), λ is. text.1),
-      );
+      tells = record {
+        of_fact = λ is. absurd (omega (arith, is));
+        of_bytes = λ is. absurd (omega (arith, is));
+        of_text = λ is. absurd (omega (arith, is));
+        none = λ one two three. refl;
+      };
+      utf8 = λ is. text.1;
       other_count = λ is. other;
       fails = search rules;
     })
