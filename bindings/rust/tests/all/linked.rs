@@ -6,17 +6,23 @@ use std::fs;
 use std::path::{Path, PathBuf};
 use std::process::Command;
 
-/// What the program `tests/fake/calls.rs` prints, with the calls that it makes.
+/// What the program `tests/fake/calls.rs` prints, with the calls that it makes and the rooms of
+/// `cfgx_compile`.
 const PRINTED: &str = "\
-cfgx_compile
+cfgx_compile 128 128
 cfgx_decide
 decided Known(true)
-cfgx_compile
-cfgx_check
+cfgx_compile 128 128
 parsed false
-cfgx_compile
-cfgx_check
-cfgx_answers
+cfgx_compile 128 128
+parsed true
+cfgx_compile 128 128
+parsed true
+cfgx_compile 128 128
+cfgx_compile 129 0
+parsed true
+cfgx_audit
+cfgx_compile 128 128
 read false
 cfgx_audit
 audited true
