@@ -78,8 +78,7 @@ static void free_list(struct list list) {
 static void value(size_t times) {
     uint8_t found;
     while (times-- > 0)
-        require(cfgx_value(CONDITION, LENGTH, ANSWERS, 2, &found, NULL) == CFGX_STATUS_DONE,
-                "value");
+        require(cfgx_value(CONDITION, LENGTH, ANSWERS, 2, &found) == CFGX_STATUS_DONE, "value");
 }
 
 static void decide(size_t times) {
@@ -88,7 +87,7 @@ static void decide(size_t times) {
     uint8_t fillings[4];
     size_t needed;
     while (times-- > 0)
-        require(cfgx_decide(CONDITION, LENGTH, unknown, 2, fillings, 4, &needed, &found, NULL)
+        require(cfgx_decide(CONDITION, LENGTH, unknown, 2, fillings, 4, &needed, &found)
                     == CFGX_STATUS_DONE, "decide");
 }
 
@@ -98,7 +97,7 @@ static size_t compile(const char *text, size_t length, size_t times, struct cfgx
     size_t predicate_count;
     while (times-- > 0)
         require(cfgx_compile(text, length, steps, 3, &step_count, predicates, 2,
-                             &predicate_count, NULL) == CFGX_STATUS_DONE, "compile");
+                             &predicate_count) == CFGX_STATUS_DONE, "compile");
     return step_count;
 }
 
@@ -106,7 +105,7 @@ static void predicates(size_t times) {
     struct cfgx_predicate found[2];
     size_t count;
     while (times-- > 0)
-        require(cfgx_predicates(CONDITION, LENGTH, found, 2, &count, NULL) == CFGX_STATUS_DONE,
+        require(cfgx_predicates(CONDITION, LENGTH, found, 2, &count) == CFGX_STATUS_DONE,
                 "predicates");
 }
 
@@ -149,10 +148,11 @@ static void audit(size_t times, struct list conditions, struct list facts) {
     size_t room = conditions.count * facts.groups;
     uint8_t *values = memory(NULL, room);
     size_t needed;
+    size_t place;
     while (times-- > 0)
         require(cfgx_audit(conditions.bytes, conditions.length, conditions.ends, conditions.count,
                            facts.bytes, facts.length, facts.ends, facts.count, facts.group_ends,
-                           facts.groups, 1, values, room, &needed, NULL)
+                           facts.groups, 1, values, room, &needed, &place)
                     == CFGX_STATUS_DONE, "audit");
     free(values);
 }

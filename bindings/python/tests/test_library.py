@@ -1,6 +1,5 @@
 """The library: its header, how it is found, and memory."""
 import ctypes
-import itertools
 import os
 import re
 import shutil
@@ -52,7 +51,7 @@ def declared(kind):
         "const char *": ctypes.c_char_p, "const uint8_t *": ctypes.c_char_p,
         "const size_t *": _library.SIZES, "size_t *": _library.SIZES,
         "char *": _library.BYTES, "uint8_t *": _library.BYTES,
-        "struct cfgx_fault *": _library.FAULT,
+        "struct cfgx_fault *": ctypes.POINTER(_library.Fault),
         "struct cfgx_predicate *": ctypes.POINTER(_library.Described),
         "const struct cfgx_step *": _library.STEPS, "struct cfgx_step *": _library.STEPS,
     }
@@ -74,8 +73,7 @@ class Header(unittest.TestCase):
 
     def test_numbers(self):
         self.assertEqual({kind.name: kind.value for kind in cfgx.Kind}, numbers_of("PREDICATE"))
-        reasons = {one.name: one.value for one in cfgx.Reason}
-        self.assertEqual({"NONE": 0, **reasons}, numbers_of("REASON"))
+        self.assertEqual({one.name: one.value for one in cfgx.Reason}, numbers_of("REASON"))
         self.assertEqual(numbers_of("VALUE"), {"FALSE": 0, "TRUE": 1, "UNKNOWN": 2})
         self.assertEqual(_library.VALUES, (False, True, None))
         self.assertEqual(numbers_of("ENDIAN"), {"BIG": 0, "LITTLE": 1})
@@ -143,7 +141,7 @@ class Finding(unittest.TestCase):
             self.assertIn(b"ImportError: cfgx cannot load", run.stderr)
 
     def test_a_library_without_the_calls(self):
-        fewer = unittest.mock.Mock(spec=["cfgx_version", "cfgx_explain"])
+        fewer = unittest.mock.Mock(spec=["cfgx_version", "cfgx_check"])
         for library in (object(), fewer):
             with unittest.mock.patch("ctypes.CDLL", return_value=library), \
                     self.subTest(library=library), self.assertRaises(ImportError) as caught:
@@ -239,16 +237,8 @@ class Calls(unittest.TestCase):
                 text = f"all({members * member})"
                 with self.subTest(text=text):
                     self.assertEqual(self.calls(cfgx.parse, text), ["compile"] * count)
+        self.assertEqual(self.calls(cfgx.parse, "all("), ["compile", "check", "explain"])
         self.assertEqual(self.calls(cfgx.feature, "x"), ["compile"])
-
-    def test_faults_come_with_the_call(self):
-        self.assertEqual(self.calls(cfgx.parse, "all("), ["compile", "explain"])
-        # The message has more bytes than the first call has room for.
-        text = "a" * 1000 + ")"
-        self.assertEqual(self.calls(cfgx.parse, text), ["compile", "explain", "explain"])
-        self.assertEqual(self.calls(cfgx.audit, ["a", "all("], [["b"]]), ["audit", "explain"])
-        self.assertEqual(self.calls(cfgx.audit, ["a"], [["b", "all("]]), ["audit"])
-        self.assertEqual(self.calls(cfgx.parse("any(a, b)").answers, ["all("]), ["answers"])
 
     def test_values_are_those_of_steps(self):
         expression = cfgx.parse("any(a, b)")
@@ -259,21 +249,7 @@ class Calls(unittest.TestCase):
     def test_answers(self):
         expression = cfgx.parse("any(a, b)")
         self.assertEqual(self.calls(expression.answers, ["unix"]), ["answers"])
-
-
-class Characters(unittest.TestCase):
-    """The characters with some bytes."""
-
-    def test_each_span(self):
-        for text in ("", "unix", "é", "aé日𝄞\0", "日本𝄞é" * 5):
-            encoded = text.encode()
-            counted = _library.characters_in(encoded)
-            places = itertools.combinations_with_replacement(range(len(encoded) + 1), 2)
-            for span in places:
-                # Of the last character before a place there may be some bytes only.
-                before = [encoded[:place].decode(errors="replace") for place in span]
-                with self.subTest(text=text, span=span):
-                    self.assertEqual(counted(*span), tuple(map(len, before)))
+        self.assertEqual(self.calls(expression.answers, ["all("]), ["answers", "audit"])
 
 
 class Memory(unittest.TestCase):
@@ -301,14 +277,15 @@ class Memory(unittest.TestCase):
         rows = [
             ("cfgx_compile", lambda: cfgx.parse("a")),
             ("cfgx_compile", lambda: cfgx.flag("a")),
+            ("cfgx_check", lambda: cfgx.parse("all(")),
             ("cfgx_explain", lambda: cfgx.parse("all(")),
             ("cfgx_apply", lambda: expression.eval([True, None])),
             ("cfgx_apply", lambda: expression.decide([True, None])),
             ("cfgx_answers", lambda: expression.answers(["b"])),
-            ("cfgx_answers", lambda: expression.answers(["all("])),
+            ("cfgx_audit", lambda: expression.answers(["all("])),
             ("cfgx_decide", lambda: expression.decide([True, None])),
             ("cfgx_audit", lambda: cfgx.audit(["a"], [["b"]])),
-            ("cfgx_audit", lambda: cfgx.audit(["a"], [["all("]])),
+            ("cfgx_check", lambda: cfgx.audit(["all("], [["b"]])),
             ("cfgx_explain", lambda: cfgx.audit(["all("], [["b"]])),
         ]
         # The version takes no memory.

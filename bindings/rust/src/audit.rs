@@ -266,14 +266,15 @@ pub fn audit_with(
             values,
             target_count: targets.len(),
         }),
-        Err(fault) => Err(fact_error(targets, &target_ends, fault.item)),
+        Err(place) => Err(fact_error(targets, &target_ends, place)),
     }
 }
 
-/// Returns the error of the fact with the number `item` among those of all targets.
-fn fact_error(targets: &[Facts], target_ends: &[usize], item: usize) -> FactError {
-    let target = target_ends.partition_point(|end| *end <= item);
-    let number = item + targets[target].len() - target_ends[target];
+/// Returns the error of the fact at `place` among those of all targets.
+fn fact_error(targets: &[Facts], target_ends: &[usize], place: usize) -> FactError {
+    let target = target_ends.partition_point(|end| *end <= place);
+    let first = target_ends[target] - targets[target].len();
+    let number = place - first;
     FactError {
         target,
         number,

@@ -17,16 +17,16 @@ use numbers::{
 };
 use std::alloc::{Layout, handle_alloc_error};
 use std::mem::MaybeUninit;
+use std::ptr::NonNull;
 use std::slice;
 
 /// The version of the header that these declarations are of.
 const VERSION: u32 = VERSION_LANGUAGE * 1_000_000 + VERSION_MAJOR * 1000 + VERSION_MINOR;
 
-/// What is wrong with a text or a fact: `struct cfgx_fault`.
+/// What is wrong with a text: `struct cfgx_fault`.
 #[repr(C)]
-#[derive(Debug, Default)]
+#[derive(Default)]
 pub(crate) struct Fault {
-    pub(crate) item: usize,
     pub(crate) offset: usize,
     pub(crate) start: usize,
     pub(crate) end: usize,
@@ -35,14 +35,12 @@ pub(crate) struct Fault {
     pub(crate) terms: u32,
 }
 
-/// A predicate of a text: `struct cfgx_predicate`. The crate does not read its whole span.
+/// A predicate of a text: `struct cfgx_predicate`.
 #[repr(C)]
-#[allow(dead_code)]
+#[derive(Clone, Copy, Default)]
 pub(crate) struct Predicate {
     pub(crate) kind: u32,
     pub(crate) number: u32,
-    pub(crate) start: usize,
-    pub(crate) end: usize,
     pub(crate) key_start: usize,
     pub(crate) key_end: usize,
     pub(crate) value_start: usize,
@@ -51,6 +49,7 @@ pub(crate) struct Predicate {
 
 /// A step of an evaluation: `struct cfgx_step`.
 #[repr(C)]
+#[derive(Clone, Copy, Default)]
 pub(crate) struct Step {
     pub(crate) kind: u32,
     pub(crate) count: usize,
@@ -88,6 +87,8 @@ impl Texts {
 unsafe extern "C" {
     safe fn cfgx_version() -> u32;
 
+    fn cfgx_check(text: *const u8, text_length: usize, fault: *mut Fault) -> u32;
+
     fn cfgx_compile(
         text: *const u8,
         text_length: usize,
@@ -97,7 +98,6 @@ unsafe extern "C" {
         predicates: *mut Predicate,
         predicate_room: usize,
         predicates_needed: *mut usize,
-        fault: *mut Fault,
     ) -> u32;
 
     fn cfgx_decide(
@@ -109,7 +109,19 @@ unsafe extern "C" {
         room: usize,
         needed: *mut usize,
         value: *mut u8,
-        fault: *mut Fault,
+    ) -> u32;
+
+    fn cfgx_answers(
+        text: *const u8,
+        text_length: usize,
+        facts: *const u8,
+        facts_length: usize,
+        fact_ends: *const usize,
+        fact_count: usize,
+        otherwise: u8,
+        answers: *mut u8,
+        room: usize,
+        needed: *mut usize,
     ) -> u32;
 
     fn cfgx_audit(
@@ -127,7 +139,7 @@ unsafe extern "C" {
         values: *mut u8,
         room: usize,
         needed: *mut usize,
-        fault: *mut Fault,
+        place: *mut usize,
     ) -> u32;
 }
 
@@ -140,17 +152,34 @@ fn ensure_version() {
     );
 }
 
-/// Returns the fault of a text or a fact if the status says that there is one. Without memory, ends
-/// the process as collections do. The call does not say how many bytes it asked for, so `size` is
-/// the number of those that it was passed.
-fn result_of(status: u32, fault: Fault, size: usize) -> Result<(), Fault> {
-    match status {
-        STATUS_DONE => Ok(()),
-        STATUS_FAULTY | STATUS_FAULTY_FACT => Err(fault),
-        STATUS_OUT_OF_MEMORY => {
-            handle_alloc_error(Layout::array::<u8>(size).unwrap_or(Layout::new::<u8>()))
+/// Ends the process, as collections do if there is no memory. `size` is the number of bytes that
+/// the call was passed, since the call does not say how many it asked for.
+fn end_without_memory(size: usize) -> ! {
+    handle_alloc_error(Layout::array::<u8>(size).unwrap_or(Layout::new::<u8>()))
+}
+
+/// A buffer for a call. Up to 128 items take no memory.
+struct Buffer<T> {
+    short: [MaybeUninit<T>; 128],
+    long: Vec<T>,
+}
+
+impl<T> Buffer<T> {
+    /// Returns a buffer without items.
+    fn new() -> Self {
+        Buffer {
+            short: [const { MaybeUninit::uninit() }; 128],
+            long: Vec::new(),
         }
-        _ => unreachable!("status {status}"),
+    }
+
+    /// Returns room for at least `count` items.
+    fn room(&mut self, count: usize) -> &mut [MaybeUninit<T>] {
+        if count <= self.short.len() {
+            return &mut self.short;
+        }
+        self.long.reserve_exact(count);
+        self.long.spare_capacity_mut()
     }
 }
 
@@ -161,22 +190,22 @@ pub(crate) fn compile<R>(
     read: impl FnOnce(&[Step], &[Predicate]) -> R,
 ) -> Result<R, Fault> {
     ensure_version();
-    // Most conditions have no more of both, and take no memory here.
-    let mut steps = [const { MaybeUninit::uninit() }; 128];
-    let mut predicates = [const { MaybeUninit::uninit() }; 128];
-    compile_into(text, &mut steps, &mut predicates, read)
+    // A step stands for at least one byte of the text, and one more stands between two steps. So
+    // there is room for all, and one call is enough. With less room the slices below would panic.
+    let most = text.len().div_ceil(2);
+    let (mut steps, mut predicates) = (Buffer::new(), Buffer::new());
+    let (steps, predicates) = fill_compiled(text, steps.room(most), predicates.room(most))?;
+    Ok(read(steps, predicates))
 }
 
-/// Does what `compile` does. If one of the buffers has too little room, calls once more with what
-/// is needed.
-fn compile_into<R>(
+/// Fills both buffers from their start, and returns what was filled.
+fn fill_compiled<'a>(
     text: &str,
-    steps: &mut [MaybeUninit<Step>],
-    predicates: &mut [MaybeUninit<Predicate>],
-    read: impl FnOnce(&[Step], &[Predicate]) -> R,
-) -> Result<R, Fault> {
-    let (mut step_count, mut predicate_count, mut fault) = (0, 0, Fault::default());
-    // SAFETY: the slices, the counts and the fault are as the head of this module says.
+    steps: &'a mut [MaybeUninit<Step>],
+    predicates: &'a mut [MaybeUninit<Predicate>],
+) -> Result<(&'a [Step], &'a [Predicate]), Fault> {
+    let (mut step_count, mut predicate_count) = (0, 0);
+    // SAFETY: the slices and the counts are as the head of this module says.
     let status = unsafe {
         cfgx_compile(
             text.as_ptr(),
@@ -187,18 +216,18 @@ fn compile_into<R>(
             predicates.as_mut_ptr().cast(),
             predicates.len(),
             &mut predicate_count,
-            &mut fault,
         )
     };
-    result_of(status, fault, text.len())?;
-    if step_count <= steps.len() && predicate_count <= predicates.len() {
-        let (steps, predicates) = (&steps[..step_count], &predicates[..predicate_count]);
-        // SAFETY: both buffers had the room, so the call filled this part of each.
-        return Ok(unsafe { read(filled(steps), filled(predicates)) });
+    match status {
+        STATUS_DONE => {
+            let (steps, predicates) = (&steps[..step_count], &predicates[..predicate_count]);
+            // SAFETY: both buffers had the room, so the call filled this part of each.
+            Ok(unsafe { (filled(steps), filled(predicates)) })
+        }
+        STATUS_FAULTY => Err(fault_of(text)),
+        STATUS_OUT_OF_MEMORY => end_without_memory(text.len()),
+        _ => unreachable!("status {status}"),
     }
-    let mut steps = Box::new_uninit_slice(step_count);
-    let mut predicates = Box::new_uninit_slice(predicate_count);
-    compile_into(text, &mut steps, &mut predicates, read)
 }
 
 /// Returns the items of a buffer.
@@ -209,6 +238,17 @@ fn compile_into<R>(
 unsafe fn filled<T>(buffer: &[MaybeUninit<T>]) -> &[T] {
     // SAFETY: a written item has the layout of its type, and the result borrows the buffer.
     unsafe { slice::from_raw_parts(buffer.as_ptr().cast(), buffer.len()) }
+}
+
+/// Returns the fault of a text that is no condition.
+fn fault_of(text: &str) -> Fault {
+    let mut fault = Fault::default();
+    // SAFETY: the text and the fault are as the head of this module says.
+    match unsafe { cfgx_check(text.as_ptr(), text.len(), &mut fault) } {
+        STATUS_FAULTY => fault,
+        STATUS_OUT_OF_MEMORY => end_without_memory(text.len()),
+        status => unreachable!("status {status}"),
+    }
 }
 
 /// Returns the byte of an answer.
@@ -230,8 +270,8 @@ fn value_of(byte: u8) -> Option<bool> {
 pub(crate) fn decide(text: &str, answers: &[Option<bool>]) -> (Option<bool>, Vec<bool>) {
     let answers: Vec<u8> = answers.iter().copied().map(byte_of).collect();
     let mut fillings = vec![0; 2 * answers.len()];
-    let (mut needed, mut value, mut fault) = (0, 0, Fault::default());
-    // SAFETY: the slices, the count, the value and the fault are as the head of this module says.
+    let (mut needed, mut value) = (0, 0);
+    // SAFETY: the slices, the count and the value are as the head of this module says.
     let status = unsafe {
         cfgx_decide(
             text.as_ptr(),
@@ -242,28 +282,57 @@ pub(crate) fn decide(text: &str, answers: &[Option<bool>]) -> (Option<bool>, Vec
             fillings.len(),
             &mut needed,
             &mut value,
-            &mut fault,
         )
     };
-    result_of(status, fault, text.len()).expect("the text is a condition");
-    fillings.truncate(needed);
+    match status {
+        STATUS_DONE => fillings.truncate(needed),
+        STATUS_OUT_OF_MEMORY => end_without_memory(text.len()),
+        _ => unreachable!("status {status}"),
+    }
     let fillings = fillings.into_iter().map(|byte| byte != 0).collect();
     (value_of(value), fillings)
 }
 
-/// Returns the value of each condition on each target, or the fault of the first faulty fact. Each
-/// of `conditions` is one. Target j has the facts up to `target_ends[j]`, and the last of these is
-/// the number of facts.
+/// Returns whether the engine takes a text as a fact, also as one that it passes over.
+pub(crate) fn is_fact(fact: &str) -> bool {
+    let condition = "true";
+    let mut needed = 0;
+    // SAFETY: the texts and the count are as the head of this module says. There is one text, so
+    // its end is one number. The buffer has no room, so any pointer will do that is not null.
+    let status = unsafe {
+        cfgx_answers(
+            condition.as_ptr(),
+            condition.len(),
+            fact.as_ptr(),
+            fact.len(),
+            &fact.len(),
+            1,
+            byte_of(None),
+            NonNull::dangling().as_ptr(),
+            0,
+            &mut needed,
+        )
+    };
+    match status {
+        STATUS_DONE => true,
+        STATUS_FAULTY_FACT => false,
+        STATUS_OUT_OF_MEMORY => end_without_memory(fact.len()),
+        _ => unreachable!("status {status}"),
+    }
+}
+
+/// Returns the value of each condition on each target, or the number of the first faulty fact.
+/// Target j has the facts up to `target_ends[j]`, and the last of these is the number of facts.
 pub(crate) fn audit(
     conditions: &Texts,
     facts: &Texts,
     target_ends: &[usize],
     otherwise: Option<bool>,
-) -> Result<Vec<Option<bool>>, Fault> {
+) -> Result<Vec<Option<bool>>, usize> {
     ensure_version();
     let mut values = vec![0; conditions.ends.len().saturating_mul(target_ends.len())];
-    let (mut needed, mut fault) = (0, Fault::default());
-    // SAFETY: the slices, the count and the fault are as the head of this module says.
+    let (mut needed, mut place) = (0, 0);
+    // SAFETY: the slices and the counts are as the head of this module says.
     let status = unsafe {
         cfgx_audit(
             conditions.bytes.as_ptr(),
@@ -280,9 +349,13 @@ pub(crate) fn audit(
             values.as_mut_ptr(),
             values.len(),
             &mut needed,
-            &mut fault,
+            &mut place,
         )
     };
-    result_of(status, fault, facts.bytes.len())?;
-    Ok(values.into_iter().map(value_of).collect())
+    match status {
+        STATUS_DONE => Ok(values.into_iter().map(value_of).collect()),
+        STATUS_FAULTY_FACT => Err(place),
+        STATUS_OUT_OF_MEMORY => end_without_memory(facts.bytes.len()),
+        _ => unreachable!("status {status}"),
+    }
 }

@@ -35,12 +35,6 @@
 //! A call that gets no memory ends the process by
 //! [`handle_alloc_error`](std::alloc::handle_alloc_error), as those of `Vec` do. All types are
 //! plain data, so they are `Send` and `Sync`.
-//!
-//! # Signals and forks
-//!
-//! Do not call from a signal handler, nor from the child of a fork in a process with threads, such
-//! as in the closure of [`pre_exec`](std::os::unix::process::CommandExt::pre_exec). Calls take
-//! memory from `malloc`, which may wait there for ever. A program that the child executes may call.
 
 #![deny(missing_docs)]
 #![deny(unsafe_code)]

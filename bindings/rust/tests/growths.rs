@@ -71,9 +71,6 @@ const COPIED: &str = "not named";
 /// A text that is no condition.
 const FAULTY: &str = "cfg(all(unix, any(key = \"value\", not(a, b))))";
 
-/// The number of members of a condition with more steps than the crate has room for.
-const MEMBERS: usize = 200;
-
 /// A line that no condition can ask.
 const PASSED_OVER: &str = "target_something_that_no_condition_can_ask_for=\"x\"";
 
@@ -82,14 +79,12 @@ const PASSED_OVER: &str = "target_something_that_no_condition_can_ask_for=\"x\""
 fn call(name: &str, granted: usize) {
     let expression = Expression::parse(CONDITION).unwrap();
     let conditions = [expression];
-    let long = format!("all({})", "a,".repeat(MEMBERS));
     let targets = [Facts::new(["unix", PASSED_OVER, "?a"]), Facts::default()];
     let no_targets = [Facts::new(["unix"]), Facts::new(["test", "all( "])];
     GRANTED.set(granted);
     match name {
         "parse" => drop(Expression::parse(CONDITION)),
         "parse a faulty text" => drop(Expression::parse(FAULTY)),
-        "parse a long text" => drop(Expression::parse(&long)),
         "decide" => drop(conditions[0].decide(|_| None)),
         "audit" => drop(audit(&conditions, &targets)),
         "audit_with" => drop(audit_with(&conditions, &targets, Otherwise::False)),
@@ -156,7 +151,6 @@ fn bytes_named(name: &str, granted: usize) -> Option<usize> {
 const CALLS: &[(&str, Option<usize>)] = &[
     ("parse", Some(CONDITION.len())),
     ("parse a faulty text", Some(FAULTY.len())),
-    ("parse a long text", Some(2 * MEMBERS + 5)),
     ("decide", Some(CONDITION.len() - 5)),
     ("audit", Some(PASSED_OVER.len() + 6)),
     ("audit_with", Some(PASSED_OVER.len() + 6)),

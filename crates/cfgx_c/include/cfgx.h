@@ -1,7 +1,7 @@
 /* The engine of cfgx for C and C++. A condition is a text such as `all(unix, feature = "x")`, whose
  * predicates are `unix` and `feature = "x"`. The calls check such texts, list their predicates, and
  * compute their values. In the repository of cfgx, docs/RULES.md has the rules of the language, and
- * docs/C.md says how to link the library and what is proved of it. This header needs C99 or C++11.
+ * docs/C.md says how to link the library and what is proved of it.
  *
  * Texts are UTF-8. Lengths, ends and spans count bytes. No byte is a terminator, so a text may
  * contain zero bytes. A condition has them only in its values. If a text begins with `cfg(` and
@@ -13,29 +13,21 @@
  *
  * A list of texts is passed as the bytes of all texts, one after another with nothing between
  * them, and an array of their ends: `ends[i]` is the number of bytes of the first i + 1 texts. An
- * empty list has no ends, and its length is 0. If an end cuts a character, the text in which the
- * character begins is not UTF-8.
+ * empty list has no ends, and its length is 0.
  *
  * A buffer has a length `room`, in items, and a `*needed`. A call always writes `*needed`: the
  * number of items of the result, or 0 if there is no result. If `room` is at least `*needed`, the
  * result stands at the start of the buffer, and the items behind it stay as they were. Otherwise
  * the whole buffer stays as it was. A call with two buffers fills both or neither. Too little room
  * changes neither the status nor another result, so compare `*needed` with `room`. Such a call does
- * all the work too, so pass a buffer that has room for most conditions, and call again for others.
- *
- * A call writes all that it is passed to write: unless it says otherwise, `*value` becomes
- * CFGX_VALUE_UNKNOWN, `*needed` becomes 0, and each member of `*fault` becomes 0. If the status is
- * CFGX_STATUS_FAULTY, CFGX_STATUS_NOT_UTF8 or CFGX_STATUS_FAULTY_FACT, a call with a `fault` writes
- * to it which text or fact this is about, and what is wrong with it. In C and C++ `fault` may be a
- * null pointer.
+ * all the work too, so pass a buffer at once if you know how many items there are.
  *
  * If several statuses apply, a call returns the first of these: CFGX_STATUS_BAD_ENDS;
- * CFGX_STATUS_TOO_LARGE; CFGX_STATUS_FAULTY_FACT, for a fact that is not UTF-8, and then for one
- * that is faulty; CFGX_STATUS_NOT_UTF8, for any text; CFGX_STATUS_FAULTY; CFGX_STATUS_NO_VALUE;
- * CFGX_STATUS_MISCOUNTED. The order of `cfgx_run` is: CFGX_STATUS_BAD_ENDS; CFGX_STATUS_NOT_UTF8,
- * for any word; CFGX_STATUS_WRONG_USE; CFGX_STATUS_FAULTY. A call may return
- * CFGX_STATUS_OUT_OF_MEMORY in place of every status but CFGX_STATUS_BAD_ENDS and
- * CFGX_STATUS_TOO_LARGE. But for that, the same arguments always have the same status.
+ * CFGX_STATUS_TOO_LARGE; CFGX_STATUS_NOT_UTF8 or CFGX_STATUS_FAULTY, for the first text that is not
+ * UTF-8 or no condition; CFGX_STATUS_FAULTY_FACT; CFGX_STATUS_NO_VALUE; CFGX_STATUS_MISCOUNTED. The
+ * order of `cfgx_run` is: CFGX_STATUS_BAD_ENDS; CFGX_STATUS_NOT_UTF8, for any word;
+ * CFGX_STATUS_WRONG_USE; CFGX_STATUS_FAULTY. A call may return CFGX_STATUS_OUT_OF_MEMORY in place
+ * of every status but CFGX_STATUS_BAD_ENDS and CFGX_STATUS_TOO_LARGE.
  *
  * A call keeps no pointer and no memory. It takes memory from malloc and realloc, and returns it
  * to free. Several threads may call at once. Nothing checks these duties of a caller:
@@ -54,13 +46,6 @@
 
 #ifdef __cplusplus
 extern "C" {
-#endif
-
-/* Lets gcc and clang warn where what a call returns is not used. */
-#ifdef __GNUC__
-#define CFGX_USE_RESULT __attribute__((warn_unused_result))
-#else
-#define CFGX_USE_RESULT
 #endif
 
 /* The version of the language of conditions, and that of these calls. */
@@ -96,7 +81,6 @@ uint32_t cfgx_version(void);
 #define CFGX_VALUE_UNKNOWN 2
 
 /* The reasons of faults. docs/RULES.md says which reason a text has. */
-#define CFGX_REASON_NONE 0                      /* no fault, or bytes that are not UTF-8 */
 #define CFGX_REASON_INVALID_NOT 1               /* a `not` has no member, or several */
 #define CFGX_REASON_INVALID_CHARACTERS 2        /* no text has this reason */
 #define CFGX_REASON_UNCLOSED_PARENS 3           /* a `(` is never closed */
@@ -132,17 +116,13 @@ uint32_t cfgx_version(void);
                                       * `target_env` `target_endian` `target_has_atomic`
                                       * `target_pointer_width` `target_vendor` */
 
-/* What is wrong with a text or a fact, and where. */
+/* What is wrong with a text, and where. */
 struct cfgx_fault {
-    /* the number of the text among those of the call, or of the fact among all facts, from 0 on */
-    size_t item;
-    /* where the stripped text begins: at 4 if the text is in cfg( ), else at 0. A `?` at the start
-     * of a fact is one byte more. It is 0 for bytes that are not UTF-8 */
+    /* where the stripped text begins in the text: at 4 if the text is in cfg( ), else at 0 */
     size_t offset;
     /* the bytes at fault, from `start` up to but not including `end` in the stripped text, so from
-     * `offset + start` up to but not including `offset + end` in the text or the fact. There may be
-     * none, they may stand at the end of the text, and they may be the first byte of a longer
-     * character. If bytes are not UTF-8, it is the first byte that is none */
+     * `offset + start` up to but not including `offset + end` in the text. There may be none, they
+     * may stand at the end of the text, and they may be the first byte of a longer character */
     size_t start;
     size_t end;
     /* the number of members of the `not`, for CFGX_REASON_INVALID_NOT; 0 for every other reason */
@@ -153,9 +133,10 @@ struct cfgx_fault {
     uint32_t terms;
 };
 
-/* Checks whether a text is a condition. Returns CFGX_STATUS_DONE if it is, and otherwise
- * CFGX_STATUS_FAULTY, CFGX_STATUS_NOT_UTF8 or CFGX_STATUS_OUT_OF_MEMORY. */
-CFGX_USE_RESULT
+/* Checks whether a text is a condition. Returns CFGX_STATUS_DONE if it is. Returns
+ * CFGX_STATUS_FAULTY if it is UTF-8 but no condition, and writes its first fault to `*fault`.
+ * Otherwise returns CFGX_STATUS_NOT_UTF8 or CFGX_STATUS_OUT_OF_MEMORY. With every status but
+ * CFGX_STATUS_FAULTY, `*fault` stays as it was. */
 uint32_t cfgx_check(const char *text, size_t text_length, struct cfgx_fault *fault);
 
 /* Explains what is wrong with a text. Returns CFGX_STATUS_DONE if the text is a condition. Returns
@@ -164,9 +145,8 @@ uint32_t cfgx_check(const char *text, size_t text_length, struct cfgx_fault *fau
  * reason. The message ends with neither a line feed nor a zero byte, but has the zero bytes of the
  * text. Otherwise returns CFGX_STATUS_NOT_UTF8 or CFGX_STATUS_OUT_OF_MEMORY. With every status but
  * CFGX_STATUS_FAULTY, `*needed` is 0. */
-CFGX_USE_RESULT
 uint32_t cfgx_explain(const char *text, size_t text_length,
-                      char *message, size_t room, size_t *needed, struct cfgx_fault *fault);
+                      char *message, size_t room, size_t *needed);
 
 /* The kinds of predicates. */
 #define CFGX_PREDICATE_FLAG 1             /* a bare key without a meaning of its own */
@@ -202,10 +182,6 @@ struct cfgx_predicate {
      * CFGX_PREDICATE_ENDIAN: the number of a byte order
      * every other kind: 0 */
     uint32_t number;
-    /* the span of the whole predicate: from the start of its key to the end of its key, or if it has
-     * a value, to the end of the closing quote */
-    size_t start;
-    size_t end;
     /* the span of the key, if the kind is CFGX_PREDICATE_FLAG or CFGX_PREDICATE_KEY_VALUE; else 0
      * and 0 */
     size_t key_start;
@@ -221,10 +197,8 @@ struct cfgx_predicate {
  * b, a and c. A predicate that stands twice is listed twice. The literals `true` and `false` are
  * neither asked nor listed. Returns CFGX_STATUS_DONE, CFGX_STATUS_FAULTY, CFGX_STATUS_NOT_UTF8 or
  * CFGX_STATUS_OUT_OF_MEMORY. */
-CFGX_USE_RESULT
 uint32_t cfgx_predicates(const char *text, size_t text_length,
-                         struct cfgx_predicate *predicates, size_t room, size_t *needed,
-                         struct cfgx_fault *fault);
+                         struct cfgx_predicate *predicates, size_t room, size_t *needed);
 
 /* Computes the value of a condition from the answers to its predicates, which are in the order of
  * `cfgx_predicates`. `all` is false if a member is false, else unknown if a member is unknown, else
@@ -232,22 +206,19 @@ uint32_t cfgx_predicates(const char *text, size_t text_length,
  * of unknown is unknown. Two answers are independent, even those to equal predicates: with unknown
  * answers `any(a, not(a))` is unknown. Returns CFGX_STATUS_DONE, and writes the value to `*value`.
  * Otherwise returns CFGX_STATUS_FAULTY, CFGX_STATUS_NOT_UTF8, CFGX_STATUS_OUT_OF_MEMORY or
- * CFGX_STATUS_MISCOUNTED. */
-CFGX_USE_RESULT
+ * CFGX_STATUS_MISCOUNTED, and `*value` stays as it was. */
 uint32_t cfgx_value(const char *text, size_t text_length,
-                    const uint8_t *answers, size_t answer_count, uint8_t *value,
-                    struct cfgx_fault *fault);
+                    const uint8_t *answers, size_t answer_count, uint8_t *value);
 
 /* Decides a condition: computes its value as `cfgx_value` does and, if the value is unknown, fills
  * `fillings` with two fillings, one behind the other. A filling has CFGX_VALUE_FALSE or
  * CFGX_VALUE_TRUE for each answer, and keeps the known answers; it may give equal predicates
  * different values. The condition is true with the first filling and false with the second one. So
- * `*needed` is 2 * answer_count, or 0 if the value is known. Returns what `cfgx_value` returns. */
-CFGX_USE_RESULT
+ * `*needed` is 2 * answer_count, or 0 if the value is known. Returns what `cfgx_value` returns.
+ * With every status but CFGX_STATUS_DONE, `*value` stays as it was. */
 uint32_t cfgx_decide(const char *text, size_t text_length,
                      const uint8_t *answers, size_t answer_count,
-                     uint8_t *fillings, size_t room, size_t *needed, uint8_t *value,
-                     struct cfgx_fault *fault);
+                     uint8_t *fillings, size_t room, size_t *needed, uint8_t *value);
 
 /* Answers the predicates of a condition by the facts of a target: one answer for each predicate, in
  * the order of `cfgx_predicates`. A fact is a text such as a line of `rustc --print cfg`. The
@@ -264,13 +235,12 @@ uint32_t cfgx_decide(const char *text, size_t text_length,
  * do. A key with a value is passed over if it begins with `target_` and is unknown. Every other
  * fact that is no condition is faulty, such as a blank one.
  *
- * Returns CFGX_STATUS_DONE; CFGX_STATUS_FAULTY_FACT; CFGX_STATUS_NOT_UTF8 or CFGX_STATUS_FAULTY,
- * which are about the text; CFGX_STATUS_OUT_OF_MEMORY; or CFGX_STATUS_BAD_ENDS. */
-CFGX_USE_RESULT
+ * Returns CFGX_STATUS_DONE; CFGX_STATUS_FAULTY or CFGX_STATUS_NOT_UTF8, which are about the text;
+ * CFGX_STATUS_FAULTY_FACT; CFGX_STATUS_OUT_OF_MEMORY; or CFGX_STATUS_BAD_ENDS. */
 uint32_t cfgx_answers(const char *text, size_t text_length,
                       const char *facts, size_t facts_length,
                       const size_t *fact_ends, size_t fact_count, uint8_t otherwise,
-                      uint8_t *answers, size_t room, size_t *needed, struct cfgx_fault *fault);
+                      uint8_t *answers, size_t room, size_t *needed);
 
 /* The kinds of steps. */
 #define CFGX_STEP_FALSE 0 /* pushes false */
@@ -294,23 +264,22 @@ struct cfgx_step {
  * from which the value that was pushed last is popped first. The answers are in the order of
  * `predicates`. `all`: acc = true; for each popped value v, acc = acc and v; acc is pushed. `any`:
  * the same with false and or. At the end the stack has one value, which is that of the condition.
- * The stack never has more values than there are steps, and there are no more steps than bytes.
+ * The stack never has more values than there are steps.
  *
  * Both buffers are filled, or neither. Returns CFGX_STATUS_DONE, CFGX_STATUS_FAULTY,
  * CFGX_STATUS_NOT_UTF8 or CFGX_STATUS_OUT_OF_MEMORY. */
-CFGX_USE_RESULT
 uint32_t cfgx_compile(const char *text, size_t text_length,
                       struct cfgx_step *steps, size_t step_room, size_t *steps_needed,
                       struct cfgx_predicate *predicates, size_t predicate_room,
-                      size_t *predicates_needed, struct cfgx_fault *fault);
+                      size_t *predicates_needed);
 
 /* Computes the value of steps over answers, with a stack as `cfgx_compile` describes it. Any steps
  * may be passed, such as those of a damaged file. Returns CFGX_STATUS_DONE, and writes the value to
  * `*value`. Returns CFGX_STATUS_NO_VALUE if a step pops more values than there are, not exactly one
  * value is left at the end, a kind is unknown, or a count is not what `cfgx_step` says. Returns
  * CFGX_STATUS_MISCOUNTED if the steps have a value over more or fewer answers, or
- * CFGX_STATUS_OUT_OF_MEMORY, which up to 33 steps and 33 answers never do. */
-CFGX_USE_RESULT
+ * CFGX_STATUS_OUT_OF_MEMORY, which up to 33 steps and 33 answers never do. With every status but
+ * CFGX_STATUS_DONE, `*value` stays as it was. */
 uint32_t cfgx_apply(const struct cfgx_step *steps, size_t step_count,
                     const uint8_t *answers, size_t answer_count, uint8_t *value);
 
@@ -319,17 +288,17 @@ uint32_t cfgx_apply(const struct cfgx_step *steps, size_t step_count,
  * `target_ends[j]`, and answers by them as in `cfgx_answers`. Item `i * target_count + j` of
  * `values` becomes the value of condition i on target j, so `*needed` is text_count * target_count.
  *
- * Returns CFGX_STATUS_DONE. Returns CFGX_STATUS_FAULTY_FACT, and tells the fault of the first fact
- * that is not UTF-8, or if all are, of the first faulty one. Facts are counted over all targets.
- * Returns CFGX_STATUS_NOT_UTF8 or CFGX_STATUS_FAULTY, and tells the fault of the first such text.
- * Otherwise returns CFGX_STATUS_OUT_OF_MEMORY, CFGX_STATUS_BAD_ENDS or CFGX_STATUS_TOO_LARGE. */
-CFGX_USE_RESULT
+ * Returns CFGX_STATUS_DONE. Returns CFGX_STATUS_FAULTY or CFGX_STATUS_NOT_UTF8, and writes the
+ * number of the first such text to `*place`. Returns CFGX_STATUS_FAULTY_FACT, and writes the number
+ * of the first such fact, counted over all targets, to `*place`. Otherwise returns
+ * CFGX_STATUS_OUT_OF_MEMORY, CFGX_STATUS_BAD_ENDS or CFGX_STATUS_TOO_LARGE. With every other
+ * status, `*place` stays as it was. */
 uint32_t cfgx_audit(const char *texts, size_t texts_length,
                     const size_t *text_ends, size_t text_count,
                     const char *facts, size_t facts_length,
                     const size_t *fact_ends, size_t fact_count,
                     const size_t *target_ends, size_t target_count, uint8_t otherwise,
-                    uint8_t *values, size_t room, size_t *needed, struct cfgx_fault *fault);
+                    uint8_t *values, size_t room, size_t *needed, size_t *place);
 
 /* Runs the program cfgx with these words, which are the arguments after the program's name. `input`
  * is its standard input. Only `pick` reads it. An input that is not UTF-8, or has more than 16 MiB,
@@ -339,16 +308,15 @@ uint32_t cfgx_audit(const char *texts, size_t texts_length,
  *
  * Returns CFGX_STATUS_BAD_ENDS if the ends are wrong, else CFGX_STATUS_NOT_UTF8 if a word is not
  * UTF-8, for which cfgx itself ends with 3. With both of these there is no output. */
-CFGX_USE_RESULT
 uint32_t cfgx_run(const char *words, size_t words_length,
                   const size_t *word_ends, size_t word_count,
                   const char *input, size_t input_length,
                   char *output, size_t room, size_t *needed);
 
-/* What follows allows a null pointer where its count is 0, and as a `fault`. The name of each call
- * but `cfgx_version` becomes that of a static function here. It passes on what it is passed, with a
- * pointer to some item in place of such a null pointer. A null pointer with another count stays
- * null. In C, a function that is inline and not static cannot call a static function. */
+/* What follows allows a null pointer where its count is 0. The name of each call but `cfgx_version`
+ * becomes that of a static function here. It passes on what it is passed, with a pointer to some
+ * item in place of such a null pointer. A null pointer with another count stays null. In C, a
+ * function that is inline and not static cannot call a static function. */
 
 static inline const char *cfgx_given_text(const char *text, size_t count) {
     static const char none = 0;
@@ -392,84 +360,60 @@ static inline struct cfgx_step *cfgx_room_for_steps(struct cfgx_step *steps, siz
     return steps == NULL && count == 0 ? &none : steps;
 }
 
-CFGX_USE_RESULT
 static inline uint32_t cfgx_check_or_none(const char *text, size_t text_length,
                                           struct cfgx_fault *fault) {
-    struct cfgx_fault untold;
-    return cfgx_check(cfgx_given_text(text, text_length), text_length,
-                      fault == NULL ? &untold : fault);
+    return cfgx_check(cfgx_given_text(text, text_length), text_length, fault);
 }
 
-CFGX_USE_RESULT
 static inline uint32_t cfgx_explain_or_none(const char *text, size_t text_length, char *message,
-                                            size_t room, size_t *needed,
-                                            struct cfgx_fault *fault) {
-    struct cfgx_fault untold;
+                                            size_t room, size_t *needed) {
     return cfgx_explain(cfgx_given_text(text, text_length), text_length,
-                        cfgx_room_for_text(message, room), room, needed,
-                        fault == NULL ? &untold : fault);
+                        cfgx_room_for_text(message, room), room, needed);
 }
 
-CFGX_USE_RESULT
 static inline uint32_t cfgx_predicates_or_none(const char *text, size_t text_length,
                                                struct cfgx_predicate *predicates, size_t room,
-                                               size_t *needed, struct cfgx_fault *fault) {
-    struct cfgx_fault untold;
+                                               size_t *needed) {
     return cfgx_predicates(cfgx_given_text(text, text_length), text_length,
-                           cfgx_room_for_predicates(predicates, room), room, needed,
-                           fault == NULL ? &untold : fault);
+                           cfgx_room_for_predicates(predicates, room), room, needed);
 }
 
-CFGX_USE_RESULT
 static inline uint32_t cfgx_value_or_none(const char *text, size_t text_length,
                                           const uint8_t *answers, size_t answer_count,
-                                          uint8_t *value, struct cfgx_fault *fault) {
-    struct cfgx_fault untold;
+                                          uint8_t *value) {
     return cfgx_value(cfgx_given_text(text, text_length), text_length,
-                      cfgx_given_answers(answers, answer_count), answer_count, value,
-                      fault == NULL ? &untold : fault);
+                      cfgx_given_answers(answers, answer_count), answer_count, value);
 }
 
-CFGX_USE_RESULT
 static inline uint32_t cfgx_decide_or_none(const char *text, size_t text_length,
                                            const uint8_t *answers, size_t answer_count,
                                            uint8_t *fillings, size_t room, size_t *needed,
-                                           uint8_t *value, struct cfgx_fault *fault) {
-    struct cfgx_fault untold;
+                                           uint8_t *value) {
     return cfgx_decide(cfgx_given_text(text, text_length), text_length,
                        cfgx_given_answers(answers, answer_count), answer_count,
-                       cfgx_room_for_values(fillings, room), room, needed, value,
-                       fault == NULL ? &untold : fault);
+                       cfgx_room_for_values(fillings, room), room, needed, value);
 }
 
-CFGX_USE_RESULT
 static inline uint32_t cfgx_answers_or_none(const char *text, size_t text_length, const char *facts,
                                             size_t facts_length, const size_t *fact_ends,
                                             size_t fact_count, uint8_t otherwise, uint8_t *answers,
-                                            size_t room, size_t *needed,
-                                            struct cfgx_fault *fault) {
-    struct cfgx_fault untold;
+                                            size_t room, size_t *needed) {
     return cfgx_answers(cfgx_given_text(text, text_length), text_length,
                         cfgx_given_text(facts, facts_length), facts_length,
                         cfgx_given_ends(fact_ends, fact_count), fact_count, otherwise,
-                        cfgx_room_for_values(answers, room), room, needed,
-                        fault == NULL ? &untold : fault);
+                        cfgx_room_for_values(answers, room), room, needed);
 }
 
-CFGX_USE_RESULT
 static inline uint32_t cfgx_compile_or_none(const char *text, size_t text_length,
                                             struct cfgx_step *steps, size_t step_room,
                                             size_t *steps_needed, struct cfgx_predicate *predicates,
-                                            size_t predicate_room, size_t *predicates_needed,
-                                            struct cfgx_fault *fault) {
-    struct cfgx_fault untold;
+                                            size_t predicate_room, size_t *predicates_needed) {
     return cfgx_compile(cfgx_given_text(text, text_length), text_length,
                         cfgx_room_for_steps(steps, step_room), step_room, steps_needed,
                         cfgx_room_for_predicates(predicates, predicate_room), predicate_room,
-                        predicates_needed, fault == NULL ? &untold : fault);
+                        predicates_needed);
 }
 
-CFGX_USE_RESULT
 static inline uint32_t cfgx_apply_or_none(const struct cfgx_step *steps, size_t step_count,
                                           const uint8_t *answers, size_t answer_count,
                                           uint8_t *value) {
@@ -477,25 +421,21 @@ static inline uint32_t cfgx_apply_or_none(const struct cfgx_step *steps, size_t 
                       cfgx_given_answers(answers, answer_count), answer_count, value);
 }
 
-CFGX_USE_RESULT
 static inline uint32_t cfgx_audit_or_none(const char *texts, size_t texts_length,
                                           const size_t *text_ends, size_t text_count,
                                           const char *facts, size_t facts_length,
                                           const size_t *fact_ends, size_t fact_count,
                                           const size_t *target_ends, size_t target_count,
                                           uint8_t otherwise, uint8_t *values, size_t room,
-                                          size_t *needed, struct cfgx_fault *fault) {
-    struct cfgx_fault untold;
+                                          size_t *needed, size_t *place) {
     return cfgx_audit(cfgx_given_text(texts, texts_length), texts_length,
                       cfgx_given_ends(text_ends, text_count), text_count,
                       cfgx_given_text(facts, facts_length), facts_length,
                       cfgx_given_ends(fact_ends, fact_count), fact_count,
                       cfgx_given_ends(target_ends, target_count), target_count, otherwise,
-                      cfgx_room_for_values(values, room), room, needed,
-                      fault == NULL ? &untold : fault);
+                      cfgx_room_for_values(values, room), room, needed, place);
 }
 
-CFGX_USE_RESULT
 static inline uint32_t cfgx_run_or_none(const char *words, size_t words_length,
                                         const size_t *word_ends, size_t word_count,
                                         const char *input, size_t input_length, char *output,

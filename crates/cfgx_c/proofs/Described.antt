@@ -12,8 +12,8 @@ use Rattle.cfgx_parser.specs.Kinds.{kind_number}
 use Rattle.cfgx_parser.specs.declared.nodes.Span.{Span}
 use Rattle.cfg_expr.specs.Located.{AreLocated, CanBeCut, Locates}
 use Rattle.cfg_expr.specs.declared.expr.located.LocatedPredicate.{LocatedPredicate}
-use Rattle.cfgx_c.specs.Predicates.{Describes, IsSpanOf, ListsPredicates, c_predicate}
-use Rattle.cfgx_c.specs.Predicates.{moved_or_none}
+use Rattle.cfgx_c.specs.Predicates.{Describes, HasSpans, IsSpanOf, ListsPredicates, c_predicate}
+use Rattle.cfgx_c.specs.Predicates.{moved}
 
 -- a part of a part
 part_of_part : (n offset start end : ℕ) (text : List ℕ) → start ≤ end
@@ -36,7 +36,7 @@ part_of_part n offset start end text ordered within =
 
 module _ (text : List ℕ) where
   moved-span : (span : Option Span) → CanBeCut (strip text) span
-      → let there = moved_or_none (strip_offset text) span in
+      → let there = moved (strip_offset text) span in
       IsSpanOf text (option_map (at (strip text)) span) there.start there.end
   moved-span None cut = (refl, refl)
   moved-span (Some span) cut =
@@ -72,3 +72,10 @@ ListsPredicates-located text located are = record {
   each = described_each text _ located are.each;
   in_place = (located, are, refl);
 }
+
+pub first_located : (text : List ℕ) (questions : List Question) (p : LocatedPredicate)
+    (rest : List LocatedPredicate) → AllZip (Locates text) questions (p ∷ rest)
+    → HasSpans text p × (others : List Question) × AllZip (Locates text) others rest
+first_located text (question ∷ others) p rest (is, are) =
+    ((is.key.cut, is.value.cut), others, are)
+first_located text [] p rest are = absurd are

@@ -1,8 +1,5 @@
 pub mod AnswerLemmas
-pub mod BufferLemmas
 pub mod CSteps
 pub mod Described
 pub mod EndsLemmas
-pub mod RefusalLemmas
-pub mod SpanLemmas
-pub mod Utf8Lemmas
+pub mod InputLemmas

@@ -1,6 +1,7 @@
 pub mod Answers
 pub mod Audit
 pub mod Buffer
+pub mod Check
 pub mod Decide
 pub mod Ends
 pub mod Faults

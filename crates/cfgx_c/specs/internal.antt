@@ -1,4 +1,3 @@
 -- The contracts of private functions cite these definitions. No public contract does.
 pub mod Applying
-pub mod Refusals
-pub mod Spans
+pub mod Reading

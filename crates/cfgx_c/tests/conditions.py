@@ -22,18 +22,18 @@ def predicate_of(key, value):
     word = key.group()
     if value is None:
         if word in (b"unix", b"windows"):
-            return (FAMILY, 0, *key.span(), 0, 0, *key.span())
+            return (FAMILY, 0, 0, 0, *key.span())
         if word in ALONE:
-            return (ALONE[word], 0, *key.span(), 0, 0, 0, 0)
-        return (FLAG, 0, *key.span(), *key.span(), 0, 0)
+            return (ALONE[word], 0, 0, 0, 0, 0)
+        return (FLAG, 0, *key.span(), 0, 0)
     inside = value.group()[1:-1]
-    whole, span = (key.start(), value.end()), (value.start() + 1, value.end() - 1)
+    span = (value.start() + 1, value.end() - 1)
     if word in NUMBERS:
         number = WORDS[inside] if inside in WORDS else int(inside)
-        return (NUMBERS[word], number, *whole, 0, 0, 0, 0)
+        return (NUMBERS[word], number, 0, 0, 0, 0)
     if word in TEXTS:
-        return (TEXTS[word], 0, *whole, 0, 0, *span)
-    return (KEY_VALUE, 0, *whole, *key.span(), *span)
+        return (TEXTS[word], 0, 0, 0, *span)
+    return (KEY_VALUE, 0, *key.span(), *span)
 
 
 class Condition:
@@ -96,7 +96,7 @@ def is_function(member):
 
 def is_predicate(member):
     """Whether the member is a predicate."""
-    return isinstance(member, tuple) and len(member) == 8
+    return isinstance(member, tuple) and len(member) == 6
 
 
 def walk(member):

@@ -134,7 +134,7 @@ def fault_of(text, fault):
     members = re.search(r"\((\d+)\)", reason)
     name = "Unexpected" if terms else re.match(r"\w+", reason)[0]
     return (
-        0, offset_of(text), int(start), int(end), int(members[1]) if members else 0,
+        offset_of(text), int(start), int(end), int(members[1]) if members else 0,
         REASONS.index(name), TERMS.index(terms[1]) if terms else 0,
     )
 

@@ -106,11 +106,11 @@ static void test_reading(const struct condition *condition)
     struct buffer predicates = make_buffer(&PREDICATES, count);
     struct cfgx_fault fault;
     expect_number("the status of cfgx_check", cfgx_check(text, length, &fault), CFGX_STATUS_DONE);
-    expect_number("the status of cfgx_explain", cfgx_explain(text, length, NULL, 0, &needed, NULL),
+    expect_number("the status of cfgx_explain", cfgx_explain(text, length, NULL, 0, &needed),
                   CFGX_STATUS_DONE);
     expect_number("the bytes of its message", needed, 0);
     uint32_t status = cfgx_predicates(text, length, (struct cfgx_predicate *)predicates.bytes,
-                                      count, &needed, NULL);
+                                      count, &needed);
     expect_number("the status of cfgx_predicates", status, CFGX_STATUS_DONE);
     expect_number("the number of predicates", needed, count);
     free_block(predicates.bytes);
@@ -134,7 +134,7 @@ static void test_decide(const struct condition *condition, uint8_t value)
     size_t count = condition->predicate_count, needed = 12345;
     uint8_t found = 77, *fillings = make_buffer(&BYTES, 2 * count).bytes;
     uint32_t status = cfgx_decide(text, condition->length, answers, count, fillings, 2 * count,
-                                  &needed, &found, NULL);
+                                  &needed, &found);
     expect_number("the status of cfgx_decide", status, CFGX_STATUS_DONE);
     expect_number("its value", found, value);
     expect_number("the bytes of its fillings", needed,
@@ -154,7 +154,7 @@ static void test_answered(const struct condition *condition, const struct cfgx_s
     uint8_t found = 77;
     memset(answers, answer, count);
     uint8_t value = value_of(condition->shape, condition->size, answers, count);
-    uint32_t status = cfgx_value(text, condition->length, answers, count, &found, NULL);
+    uint32_t status = cfgx_value(text, condition->length, answers, count, &found);
     expect_number("the status of cfgx_value", status, CFGX_STATUS_DONE);
     expect_number("its value", found, value);
     found = 77;
@@ -172,7 +172,7 @@ static void test_compile(const struct condition *condition)
     uint32_t status = cfgx_compile(text, condition->length, (struct cfgx_step *)steps.bytes,
                                    condition->step_count, &needed,
                                    (struct cfgx_predicate *)predicates.bytes, count,
-                                   &predicates_needed, NULL);
+                                   &predicates_needed);
     expect_number("the status of cfgx_compile", status, CFGX_STATUS_DONE);
     expect_number("the number of steps", needed, condition->step_count);
     expect_number("the number of predicates", predicates_needed, count);
@@ -193,18 +193,18 @@ static uint8_t value_over(const struct condition *condition, uint8_t answer)
 /* The calls that take facts: one that answers all predicates, or none. */
 static void test_facts(const struct condition *condition, size_t fact_count)
 {
-    size_t count = condition->predicate_count, needed = 12345;
+    size_t count = condition->predicate_count, needed = 12345, place = 54321;
     size_t length = fact_count * condition->fact.length;
     struct buffer found = make_buffer(&BYTES, count), found_value = make_buffer(&BYTES, 1);
     uint8_t value = value_over(condition, fact_count > 0 ? CFGX_VALUE_TRUE : CFGX_VALUE_UNKNOWN);
     uint32_t status = cfgx_answers(text, condition->length, condition->fact.bytes, length, &length,
-                                   fact_count, 1, found.bytes, count, &needed, NULL);
+                                   fact_count, 1, found.bytes, count, &needed);
     expect_number("the status of cfgx_answers", status, CFGX_STATUS_DONE);
     expect_number("the number of answers", needed, count);
     expect_filled(found, answers, count);
     status = cfgx_audit(text, condition->length, &condition->length, 1, condition->fact.bytes,
                         length, &length, fact_count, &fact_count, 1, 1, found_value.bytes, 1,
-                        &needed, NULL);
+                        &needed, &place);
     expect_number("the status of cfgx_audit", status, CFGX_STATUS_DONE);
     expect_number("the number of values", needed, 1);
     expect_filled(found_value, &value, 1);
@@ -274,17 +274,17 @@ static void test_fault(size_t size)
 {
     char *end = repeat(repeat(repeat(text, "not(", 1), "a,", size), ")", 1);
     size_t length = (size_t)(end - text), needed = 12345;
-    struct cfgx_fault found = {0, 0, 0, 0, size + 1, 0, 0};
+    struct cfgx_fault fault = {0, 0, length, size, CFGX_REASON_INVALID_NOT, 0}, found = fault;
     uint32_t wanted_status = size == 1 ? CFGX_STATUS_DONE : CFGX_STATUS_FAULTY;
     memcpy(wanted, text, length);
     char *at = repeat(repeat(wanted + length, "\n", 1), "^", length);
     at += sprintf(at, " not() takes 1 predicate, found %zu", size);
     size_t wanted_length = size == 1 ? 0 : (size_t)(at - wanted);
     struct buffer message = make_buffer(&BYTES, wanted_length);
+    found.members = size + 1;
     expect_number("the status of cfgx_check", cfgx_check(text, length, &found), wanted_status);
-    expect_number("the members at fault", found.members, size == 1 ? 0 : size);
-    uint32_t status = cfgx_explain(text, length, (char *)message.bytes, wanted_length, &needed,
-                                   NULL);
+    expect_number("the members at fault", found.members, size + (size == 1));
+    uint32_t status = cfgx_explain(text, length, (char *)message.bytes, wanted_length, &needed);
     expect_number("the status of cfgx_explain", status, wanted_status);
     expect_number("the bytes of its message", needed, wanted_length);
     expect_filled(message, wanted, wanted_length);
@@ -298,11 +298,10 @@ static void test_miscounted(size_t size)
     uint8_t value = 77;
     size_t needed = 12345;
     memset(answers, CFGX_VALUE_TRUE, size);
-    expect_number("the status of cfgx_value", cfgx_value("a", 1, answers, size, &value, NULL),
+    expect_number("the status of cfgx_value", cfgx_value("a", 1, answers, size, &value),
                   wanted_status);
     expect_number("the status of cfgx_decide",
-                  cfgx_decide("a", 1, answers, size, NULL, 0, &needed, &value, NULL),
-                  wanted_status);
+                  cfgx_decide("a", 1, answers, size, NULL, 0, &needed, &value), wanted_status);
     expect_number("the status of cfgx_apply", cfgx_apply(&ask, 1, answers, size, &value),
                   wanted_status);
 }
@@ -312,7 +311,7 @@ static void test_many_facts(size_t size)
 {
     const uint8_t found_answers[] = {size > 0, size > 1, 0};
     const char *condition = "all(a, b, not(c))";
-    size_t length = strlen(condition), needed = 12345;
+    size_t length = strlen(condition), needed = 12345, place = 54321;
     struct buffer found = make_buffer(&BYTES, 3), value = make_buffer(&BYTES, 1);
     for (size_t i = 0; i < size; i++) {
         texts[i] = i + 1 < size ? 'b' : 'a';
@@ -321,11 +320,11 @@ static void test_many_facts(size_t size)
     /* The functions of a list are asked first. */
     const uint8_t wanted_answers[] = {found_answers[2], found_answers[0], found_answers[1]};
     uint32_t status = cfgx_answers(condition, length, texts, size, ends, size, 0, found.bytes, 3,
-                                   &needed, NULL);
+                                   &needed);
     expect_number("the status of cfgx_answers", status, CFGX_STATUS_DONE);
     expect_filled(found, wanted_answers, 3);
     status = cfgx_audit(condition, length, &length, 1, texts, size, ends, size, &size, 1, 0,
-                        value.bytes, 1, &needed, NULL);
+                        value.bytes, 1, &needed, &place);
     expect_number("the status of cfgx_audit", status, CFGX_STATUS_DONE);
     expect_filled(value, &found_answers[1], 1);
 }
@@ -334,14 +333,14 @@ static void test_many_facts(size_t size)
 static void test_targets(size_t size)
 {
     struct buffer found = make_buffer(&BYTES, size);
-    size_t needed = 12345, one = 1;
+    size_t needed = 12345, place = 54321, one = 1;
     for (size_t i = 0; i < size; i++) {
         texts[i] = "ab"[i % 2];
         ends[i] = target_ends[i] = i + 1;
         values[i] = i % 2 == 0;
     }
     uint32_t status = cfgx_audit("a", 1, &one, 1, texts, size, ends, size, target_ends, size, 0,
-                                 found.bytes, size, &needed, NULL);
+                                 found.bytes, size, &needed, &place);
     expect_number("the status of cfgx_audit", status, CFGX_STATUS_DONE);
     expect_number("the number of values", needed, size);
     expect_filled(found, values, size);
@@ -351,14 +350,14 @@ static void test_targets(size_t size)
 static void test_texts(size_t size)
 {
     struct buffer found = make_buffer(&BYTES, size);
-    size_t needed = 12345, one = 1;
+    size_t needed = 12345, place = 54321, one = 1;
     for (size_t i = 0; i < size; i++) {
         texts[i] = "ab"[i % 2];
         ends[i] = i + 1;
         values[i] = i % 2 == 0;
     }
     uint32_t status = cfgx_audit(texts, size, ends, size, "a", 1, &one, 1, &one, 1, 0, found.bytes,
-                                 size, &needed, NULL);
+                                 size, &needed, &place);
     expect_number("the status of cfgx_audit", status, CFGX_STATUS_DONE);
     expect_number("the number of values", needed, size);
     expect_filled(found, values, size);

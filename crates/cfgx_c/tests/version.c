@@ -5,24 +5,21 @@
 #define OFFSET(type, field, bytes)                                                                 \
     _Static_assert(offsetof(struct type, field) == (bytes), "the offset of a field")
 
-SIZE(cfgx_fault, 48);
-OFFSET(cfgx_fault, item, 0);
-OFFSET(cfgx_fault, offset, 8);
-OFFSET(cfgx_fault, start, 16);
-OFFSET(cfgx_fault, end, 24);
-OFFSET(cfgx_fault, members, 32);
-OFFSET(cfgx_fault, reason, 40);
-OFFSET(cfgx_fault, terms, 44);
+SIZE(cfgx_fault, 40);
+OFFSET(cfgx_fault, offset, 0);
+OFFSET(cfgx_fault, start, 8);
+OFFSET(cfgx_fault, end, 16);
+OFFSET(cfgx_fault, members, 24);
+OFFSET(cfgx_fault, reason, 32);
+OFFSET(cfgx_fault, terms, 36);
 
-SIZE(cfgx_predicate, 56);
+SIZE(cfgx_predicate, 40);
 OFFSET(cfgx_predicate, kind, 0);
 OFFSET(cfgx_predicate, number, 4);
-OFFSET(cfgx_predicate, start, 8);
-OFFSET(cfgx_predicate, end, 16);
-OFFSET(cfgx_predicate, key_start, 24);
-OFFSET(cfgx_predicate, key_end, 32);
-OFFSET(cfgx_predicate, value_start, 40);
-OFFSET(cfgx_predicate, value_end, 48);
+OFFSET(cfgx_predicate, key_start, 8);
+OFFSET(cfgx_predicate, key_end, 16);
+OFFSET(cfgx_predicate, value_start, 24);
+OFFSET(cfgx_predicate, value_end, 32);
 
 SIZE(cfgx_step, 16);
 OFFSET(cfgx_step, kind, 0);

@@ -7,7 +7,7 @@ import subprocess
 from typing import Any, Dict, Iterator, List, NamedTuple, Optional, Sequence, Tuple
 
 from ._error import ParseError, RustcError
-from ._expression import Expression, Kind, Predicate, parse
+from ._expression import Expression, Kind, Predicate, parse, stripped
 from ._facts import rustc_lines
 
 # The tables of dependencies and the kind of those in each, in the order in which Cargo lists those
@@ -142,8 +142,7 @@ def explained(error: ParseError) -> str:
     """Returns the message of an error with the text on one line, and the marks below what is at
     fault there."""
     text, marks = error.message.rsplit("\n", 1)
-    # The message has the text without an outer `cfg( )`.
-    offset = len("cfg(") if len(text) < len(error.text) else 0
+    offset, _ = stripped(error.text)
     start, end = (place - offset for place in error.span)
     before, at_fault = on_one_line(text[:start]), on_one_line(text[start:end])
     marks = marks.lstrip(" ")

@@ -6,23 +6,17 @@ use std::fs;
 use std::path::{Path, PathBuf};
 use std::process::Command;
 
-/// What the program `tests/fake/calls.rs` prints, with the calls that it makes and the rooms of
-/// `cfgx_compile`.
+/// What the program `tests/fake/calls.rs` prints, with the calls that it makes.
 const PRINTED: &str = "\
-cfgx_compile 128 128
+cfgx_compile
 cfgx_decide
 decided Known(true)
-cfgx_compile 128 128
+cfgx_compile
+cfgx_check
 parsed false
-cfgx_compile 128 128
-parsed true
-cfgx_compile 128 128
-parsed true
-cfgx_compile 128 128
-cfgx_compile 129 0
-parsed true
-cfgx_audit
-cfgx_compile 128 128
+cfgx_compile
+cfgx_check
+cfgx_answers
 read false
 cfgx_audit
 audited true

@@ -144,17 +144,6 @@ fn texts_are_compared_byte_for_byte() {
 }
 
 #[test]
-fn other_texts_are_not_stripped() {
-    for text in ["cfg", "cfg,", " cfg ", "cfgs", "cfg = \"(a)\""] {
-        assert_eq!(Expression::parse(text).unwrap().original(), text);
-    }
-    for text in ["cfg(a", "cfg(a) ", "cfg(a),", " cfg(a)", "Cfg(a)"] {
-        assert_eq!(Expression::parse(text).unwrap_err().original, text);
-    }
-    assert_eq!(Expression::parse("cfg(cfg)").unwrap().original(), "cfg");
-}
-
-#[test]
 fn from_str_reads_what_parse_reads() {
     for text in DIFFERENT.as_flattened().iter().chain(&["\tall( ", ""]) {
         let (parsed, read) = (Expression::parse(text), text.parse::<Expression>());

@@ -7,11 +7,7 @@ use cfg_expr::{Expression, Facts, audit};
 fn main() {
     let nothing = Expression::parse("").unwrap();
     println!("decided {:?}", nothing.decide(|_| None));
-    // A fault, a long text, and as many steps as there is room for at first, and one more
-    for (sign, count) in [("!", 1), (" ", 100_000), ("+", 128), ("+", 129)] {
-        let parsed = Expression::parse(&sign.repeat(count));
-        println!("parsed {}", parsed.is_ok_and(|one| one.eval(|_| false)));
-    }
+    println!("parsed {}", Expression::parse("!").is_ok());
     println!("read {}", TargetInfo::from_rustc_cfg("", "!").is_ok());
     let conditions = [nothing];
     for (conditions, targets) in [

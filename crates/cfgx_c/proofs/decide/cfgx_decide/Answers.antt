@@ -8,5 +8,5 @@ returns-clause-done c is = rw (← c.in-Ok.ensures.ok.0) (
   c.in-Ok-decide_over_bytes.decision,
   c.in-Ok-decide_over_bytes.ensures,
   c.byte_of_value.ensures ∙ ap byte_of_value c.value_in.ensures,
-  c.fill_fillings.ensures,
+  rw (c.as_slice.ensures.value, c.in-Ok-fillings_in.ensures) at c.fill.ensures,
 )
