@@ -1,7 +1,8 @@
 -- A condition as steps, and how steps are run with a stack of values.
 -- Source: reverse Polish notation, in which a function stands behind its members.
 use Rattle.std.specs.Prelude.{◌≡◌, ◌≢◌, ◌<◌, ◌++◌, ℕ, Bool, List, [], ◌∷◌, Option, Some, None}
-use Rattle.std.specs.Prelude.{drop, false, if◌then◌else◌, length, nat_eq, nat_le, option_and_then}
+use Rattle.std.specs.Prelude.{drop, false, if◌then◌else◌, length, map, nat_eq, nat_le}
+use Rattle.std.specs.Prelude.{option_and_then}
 use Rattle.std.specs.Prelude.{reverse, take, true}
 use Rattle.std.specs.{Cmp.Lexicographic.pointwise, Ordering.on}
 use Rattle.cfgx_grammar.specs.Answer.{HasOneTree}
@@ -49,6 +50,14 @@ abbrev mutual
 -- the steps of the text's one tree
 abbrev pub AreSteps : List ℕ → List Step → Type 0
 AreSteps text steps = (one : HasOneTree text) × (steps ≡ steps_of one.tree)
+
+-- these are the steps of the text's one tree in this form
+abbrev pub AreStepsAs : {T : Type 0} → (Step → T) → List ℕ → List T → Type 0
+AreStepsAs form text steps = (one : HasOneTree text) × (steps ≡ map form (steps_of one.tree))
+
+-- the text's one tree has so many steps
+abbrev pub HasSteps : List ℕ → ℕ → Type 0
+HasSteps text n = (one : HasOneTree text) × (n ≡ length (steps_of one.tree))
 
 module _ {T : Type 0} (logic : Operations T) where
   -- The stack after `n` values are popped and their joined value is pushed: none if there are

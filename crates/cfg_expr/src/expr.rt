@@ -38,7 +38,7 @@ pub use spelling::spell;
 use std::alloc::{AllocError, Allocator, Global};
 use std::fmt;
 use std::marker::Model;
-pub use steps::{Step, StepsError, eval_steps, steps_of};
+pub use steps::{FromStep, Step, StepsError, eval_steps, steps_of};
 
 /// A parsed condition. Contracts see it as its stripped text.
 #[derive(Drop)]

@@ -10,10 +10,11 @@ ghost use Rattle.cfg_expr.specs.Deciding.{AreFillings, Decides, IsExactOverAll, 
 ghost use Rattle.cfg_expr.specs.Evaluation.{AsksInOrder, EvaluatesTo, MayEvaluate};
 ghost use Rattle.cfg_expr.specs.Evaluation.{IsByLaneOverAll, IsValueInLanes};
 ghost use Rattle.cfg_expr.specs.Located.{AreLocated};
-ghost use Rattle.cfg_expr.specs.Steps.{AreSteps};
+ghost use Rattle.cfg_expr.specs.Steps.{AreSteps, AreStepsAs, HasSteps};
 
 use super::{
-    Decision, LocatedPredicates, Logic, Predicate, Predicates, Step, evaluating, filling, steps,
+    Decision, FromStep, LocatedPredicates, Logic, Predicate, Predicates, Step, evaluating, filling,
+    steps,
 };
 use crate::error::Failure;
 use crate::memory::SmallAllocator;
@@ -204,6 +205,32 @@ impl<'a> Condition<'a> {
     {
         prove!(are_disjoint(answers));
         evaluating::eval_over_slice(alloc, self, answers)
+    }
+
+    /// Returns the number of steps of the condition, which has no more steps than bytes.
+    pub fn step_count(&self) -> usize
+        ensures steps { HasSteps self.now result }
+        ensures few { result ≤ length self.now }
+    {
+        self.nodes().len()
+    }
+
+    /// Writes the steps of the condition into `buffer`, each in a form of its own. `buffer` has as
+    /// many items as there are steps, and is unchanged if memory is refused.
+    ///
+    /// # Errors
+    ///
+    /// `AllocError`: `alloc` refused memory.
+    pub fn write_steps<T: FromStep, A: SmallAllocator>(
+        &self,
+        alloc: A,
+        buffer: &mut [T],
+    ) -> Result<(), AllocError>
+        requires { HasSteps self.now (length buffer.old) }
+        ensures steps { OnOk result (AreStepsAs T.form self.now buffer.new) }
+        ensures refused { OnErr result (buffer.new ≡ buffer.old) }
+    {
+        steps::write_steps(alloc, self, buffer)
     }
 
     /// Compiles the condition to steps, as `Expression::steps` does.

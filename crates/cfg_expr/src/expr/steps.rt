@@ -4,18 +4,20 @@
 //! members, and members come in the order in which they are asked. So each step that asks takes the
 //! next answer, and a function joins the last values of the stack.
 ghost use Rattle.std.specs.Prelude.{◌≡◌, ◌<◌, ◌≤◌, [], ◌∷◌, ◌++◌, ℕ, List, None, Some};
-ghost use Rattle.std.specs.Prelude.{IfErr, IfOk, IsTrue, MatchOption, OnOk};
+ghost use Rattle.std.specs.Prelude.{◌+◌, IfErr, IfOk, IsTrue, MatchOption, OnErr, OnOk, count_by};
 ghost use Rattle.std.specs.Prelude.{◌↔◌, drop, length, map, reverse, slice_get, take};
 ghost use Rattle.std.specs.Cmp.Rules.{comparing};
 ghost use Rattle.std.proofs.Common.{rules};
 ghost use Rattle.smallvec.specs.SmallVec.{HasRoomFor};
 ghost use Rattle.cfg_expr.specs.Fold.{from_last};
-ghost use Rattle.cfgx_parser.specs.nodes.Shape.{shape};
-ghost use Rattle.cfg_expr.specs.Steps.{AreSteps, Fail, run_steps, step_eq};
+ghost use Rattle.cfgx_parser.specs.declared.function.Func.{Func};
+ghost use Rattle.cfgx_parser.specs.nodes.Shape.{Shape, shape};
+ghost use Rattle.cfg_expr.specs.Steps.{AreSteps, AreStepsAs, Fail, HasSteps, run_steps, step_eq};
 ghost use Rattle.cfg_expr.specs.nodes.Reading.{identity_of, join_of};
 ghost use Rattle.cfg_expr.specs.nodes.StepStack.{Holds, leave_one, popped};
-ghost use Rattle.cfg_expr.specs.nodes.StepWriting.{Written, ended, with_function, with_leaf};
-ghost use Rattle.cfg_expr.specs.nodes.StepWriting.{with_node, with_nodes, written_of};
+ghost use Rattle.cfg_expr.specs.nodes.StepWriting.{HasRoom, KeepsRoom, ended, is_function};
+ghost use Rattle.cfg_expr.specs.nodes.StepWriting.{with_function, with_leaf, with_node, with_nodes};
+ghost use Rattle.cfg_expr.specs.nodes.StepWriting.{written_of};
 
 use super::evaluating::{Connective, literal_value};
 use super::{Condition, Func};
@@ -227,6 +229,28 @@ where
     }
 }
 
+/// What a step becomes in a buffer of steps.
+pub trait FromStep: Copy {
+    ghost use Rattle.cfg_expr.specs.declared.expr.steps.Step.{Step};
+
+    /// The form of a step.
+    ghost form: { Step → Self };
+
+    /// Returns the form of `step`.
+    fn from_step(step: Step) -> Self
+        ensures { result ≡ form step };
+}
+
+impl FromStep for Step {
+    ghost use Rattle.cfg_expr.specs.declared.expr.steps.Step.{Step};
+
+    ghost form = { λ step. step };
+
+    fn from_step(step: Step) -> Step {
+        step
+    }
+}
+
 /// A function that has begun and not ended.
 #[derive(Clone, Copy, Default)]
 pub(crate) struct Open {
@@ -237,7 +261,8 @@ pub(crate) struct Open {
     leaves: usize,
 }
 
-/// The steps of a condition while they are written, in one pass over its nodes.
+/// Writes the steps of a condition into a buffer, in one pass over its nodes. It takes its memory
+/// before the pass, so that the buffer is written whole or not at all.
 #[derive(Drop)]
 pub(crate) struct StepWriter<A: SmallAllocator> {
     /// The functions that have begun and not ended, the innermost one last
@@ -245,98 +270,177 @@ pub(crate) struct StepWriter<A: SmallAllocator> {
     /// The steps of leaves whose function has not ended, those of inner functions last. When it
     /// ends, they follow the steps of its member functions
     leaves: SmallVec<Step, 4, A>,
-    /// The other steps
-    steps: Vec<Step, A>,
+    /// The number of the other steps. These stand at the start of the buffer
+    written: usize,
+}
+
+/// Writes `steps` into `buffer` from `begin` on.
+fn write_each<T: FromStep>(steps: &[Step], buffer: &mut [T], begin: usize)
+    requires { begin + length steps.now ≤ length buffer.old }
+    ensures { take (begin + length steps.now) buffer.new
+        ≡ take begin buffer.old ++ map T.form steps.now }
+{
+    for i in 0..steps.len() {
+        buffer[begin + i] = T::from_step(steps[i]);
+    }
 }
 
 impl<A: SmallAllocator> StepWriter<A> {
-    /// Moves all leaves but the first `count` to the end of the steps.
-    fn end_leaves(&mut self, count: usize) -> Result<(), AllocError>
+    /// Returns a writer that has written nothing.
+    fn new(alloc: A) -> Self
+        ensures begun { result.begun.items ≡ [] }
+        ensures leaves { result.leaves.items ≡ [] }
+        ensures written { result.written ≡ 0 }
+    {
+        StepWriter {
+            begun: SmallVec::new(alloc),
+            leaves: SmallVec::new(alloc),
+            written: 0,
+        }
+    }
+
+    /// Reserves room for the steps of `nodes`. A writer that has room from the start would be
+    /// copied out of its result.
+    fn reserve(&mut self, nodes: &[ExprNode]) -> Result<(), AllocError>
+        ensures kept { (self.new.begun.items ≡ self.old.begun.items)
+            × (self.new.leaves.items ≡ self.old.leaves.items)
+            × (self.new.written ≡ self.old.written) }
+        ensures begun { OnOk result
+            (HasRoomFor self.new.begun (count_by is_function (map shape nodes.now))) }
+        ensures leaves { OnOk result (HasRoomFor self.new.leaves (length nodes.now)) }
+    {
+        let functions = nodes
+            .iter()
+            .filter(|node| matches!(node, ExprNode::Fn { .. }))
+            .count();
+        self.begun.reserve(functions)?;
+        self.leaves.reserve(nodes.len())
+    }
+
+    /// Writes all leaves but the first `count`.
+    fn end_leaves<T: FromStep>(&mut self, count: usize, buffer: &mut [T])
+        requires { self.old.written + length self.old.leaves.items ≤ length buffer.old }
         ensures begun { self.new.begun ≡ self.old.begun }
-        ensures leaves { OnOk result (self.new.leaves.items ≡ take count self.old.leaves.items) }
-        ensures steps { OnOk result (self.new.steps.items
-            ≡ self.old.steps.items ++ drop count self.old.leaves.items) }
+        ensures leaves { self.new.leaves.items ≡ take count self.old.leaves.items }
+        ensures capacity { self.new.leaves.capacity ≡ self.old.leaves.capacity }
+        ensures written { self.new.written
+            ≡ self.old.written + length (drop count self.old.leaves.items) }
+        ensures steps { take self.new.written buffer.new
+            ≡ take self.old.written buffer.old ++ map T.form (drop count self.old.leaves.items) }
     {
         let begin = count.min(self.leaves.len());
-        self.steps
-            .extend_from_slice(&self.leaves.as_slice()[begin..])?;
+        let ended = &self.leaves.as_slice()[begin..];
+        write_each(ended, buffer, self.written);
+        self.written += ended.len();
         self.leaves.truncate(begin);
-        Ok(())
     }
 
     /// Ends a member, and each function that ends with it.
-    fn end_member(&mut self) -> Result<(), AllocError>
-        ensures { OnOk result (written_of self.new ≡ ended (written_of self.old).begun
-            (written_of self.old).leaves (written_of self.old).steps) }
+    fn end_member<T: FromStep>(&mut self, buffer: &mut [T])
+        requires { HasRoom self.old buffer.old [] }
+        ensures steps { written_of self.new buffer.new
+            ≡ ended T.form (written_of self.old buffer.old).begun
+            (written_of self.old buffer.old).leaves (written_of self.old buffer.old).steps }
+        ensures room { KeepsRoom self.old self.new buffer.new }
     {
         while let Some(function) = self.begun.pop() {
             if function.members_left > 1 {
                 let members_left = function.members_left - 1;
-                self.begun.push(Open {
+                self.begun.push_reserved(Open {
                     members_left,
                     ..function
-                })?;
-                return Ok(());
+                });
+                return;
             }
-            self.end_leaves(function.leaves)?;
-            self.steps.push(function.step)?;
+            self.end_leaves(function.leaves, buffer);
+            buffer[self.written] = T::from_step(function.step);
+            self.written += 1;
         }
-        Ok(())
     }
 
     /// Writes the step of a leaf.
-    fn write_leaf(&mut self, step: Step) -> Result<(), AllocError>
-        ensures { OnOk result (written_of self.new ≡ with_leaf step (written_of self.old)) }
+    fn write_leaf<T: FromStep>(&mut self, step: Step, buffer: &mut [T])
+        requires { (shape : Shape) × HasRoom self.old buffer.old (shape ∷ []) }
+        ensures steps { written_of self.new buffer.new
+            ≡ with_leaf T.form step (written_of self.old buffer.old) }
+        ensures room { KeepsRoom self.old self.new buffer.new }
     {
-        self.leaves.push(step)?;
-        self.end_member()
+        self.leaves.push_reserved(step);
+        self.end_member(buffer);
     }
 
     /// Begins a function, whose step is written when its last member ends.
-    fn begin_function(&mut self, step: Step, members: usize) -> Result<(), AllocError>
-        ensures { OnOk result
-            (written_of self.new ≡ with_function step members (written_of self.old)) }
+    fn begin_function<T: FromStep>(&mut self, step: Step, members: usize, buffer: &mut [T])
+        requires { (func : Func) × HasRoom self.old buffer.old (Shape.function func ∷ []) }
+        ensures steps { written_of self.new buffer.new
+            ≡ with_function T.form step members (written_of self.old buffer.old) }
+        ensures room { KeepsRoom self.old self.new buffer.new }
     {
         let leaves = self.leaves.len();
-        self.begun.push(Open {
+        self.begun.push_reserved(Open {
             step,
             members_left: members,
             leaves,
-        })?;
+        });
         // A function without members ends at once, since `end_member` ends each function that has
         // at most one member left.
         if members == 0 {
-            return self.end_member();
+            self.end_member(buffer);
         }
-        Ok(())
     }
 
     /// Writes the next node.
-    fn write_node(&mut self, node: &ExprNode) -> Result<(), AllocError>
-        ensures { OnOk result
-            (written_of self.new ≡ with_node (shape node.now) (written_of self.old)) }
+    fn write_node<T: FromStep>(&mut self, node: &ExprNode, buffer: &mut [T])
+        requires { HasRoom self.old buffer.old (shape node.now ∷ []) }
+        ensures steps { written_of self.new buffer.new
+            ≡ with_node T.form (shape node.now) (written_of self.old buffer.old) }
+        ensures room { KeepsRoom self.old self.new buffer.new }
     {
         match node {
-            ExprNode::Predicate(_) => self.write_leaf(Step::Ask),
-            ExprNode::Literal(truth) => self.write_leaf(Step::Literal(*truth)),
+            ExprNode::Predicate(_) => self.write_leaf(Step::Ask, buffer),
+            ExprNode::Literal(truth) => self.write_leaf(Step::Literal(*truth), buffer),
             ExprNode::Fn { func, .. } => match func {
-                Func::Not => self.begin_function(Step::Not, 1),
-                Func::All(count) => self.begin_function(Step::All(*count), *count),
-                Func::Any(count) => self.begin_function(Step::Any(*count), *count),
+                Func::Not => self.begin_function(Step::Not, 1, buffer),
+                Func::All(count) => self.begin_function(Step::All(*count), *count, buffer),
+                Func::Any(count) => self.begin_function(Step::Any(*count), *count, buffer),
             },
         }
     }
 
     /// Writes all nodes, one after another.
-    fn write_nodes(&mut self, nodes: &[ExprNode]) -> Result<(), AllocError>
-        ensures { OnOk result (written_of self.new
-            ≡ with_nodes (map shape nodes.now) (written_of self.old)) }
+    fn write_nodes<T: FromStep>(&mut self, nodes: &[ExprNode], buffer: &mut [T])
+        requires { HasRoom self.old buffer.old (map shape nodes.now) }
+        ensures steps { written_of self.new buffer.new
+            ≡ with_nodes T.form (map shape nodes.now) (written_of self.old buffer.old) }
+        ensures room { HasRoom self.new buffer.new [] }
     {
         for node in nodes {
-            self.write_node(node)?;
+            self.write_node(node, buffer);
         }
-        Ok(())
     }
+}
+
+/// Writes the steps of a condition into `buffer`, in time proportional to their number.
+///
+/// # Errors
+///
+/// `AllocError`: `alloc` refused memory.
+pub(crate) fn write_steps<T: FromStep, A: SmallAllocator>(
+    alloc: A,
+    condition: &Condition<'_>,
+    buffer: &mut [T],
+) -> Result<(), AllocError>
+    requires { HasSteps condition.now (length buffer.old) }
+    ensures steps { OnOk result (AreStepsAs T.form condition.now buffer.new) }
+    ensures refused { OnErr result (buffer.new ≡ buffer.old) }
+{
+    let nodes = condition.nodes();
+    let mut writer = StepWriter::new(alloc);
+    writer.reserve(nodes)?;
+    writer.write_nodes(nodes, buffer);
+    // A condition without a function is one leaf, which still waits.
+    writer.end_leaves(0, buffer);
+    Ok(())
 }
 
 /// Returns the steps of a condition, in time proportional to the number of its nodes.
@@ -350,14 +454,7 @@ pub fn steps_of<A: SmallAllocator>(
 ) -> Result<Vec<Step, A>, AllocError>
     ensures { IfOk result (λ steps. AreSteps condition.now steps.items) }
 {
-    let nodes = condition.nodes();
-    let mut writer = StepWriter {
-        begun: SmallVec::new(alloc),
-        leaves: SmallVec::new(alloc),
-        steps: Vec::with_capacity(alloc, nodes.len())?,
-    };
-    writer.write_nodes(nodes)?;
-    // A condition without a function is one leaf, which still waits.
-    writer.end_leaves(0)?;
-    Ok(writer.steps)
+    let mut steps = vec![in alloc; Step::default(); condition.step_count()]?;
+    write_steps(alloc, condition, steps.as_mut_slice())?;
+    Ok(steps)
 }

@@ -1,23 +1,29 @@
--- All nodes of the text's one tree are written.
-use Rattle.std.proofs.Common.{◌≡◌, ◌++◌, ◌∙◌, ap, map, refl, reverse}
-use Rattle.cfgx_parser.specs.nodes.{Shape.{shape}}
-use Rattle.cfg_expr.specs.nodes.StepWriting.{nothing, with_nodes}
-use Rattle.cfg_expr.proofs.{evaluated.Nodes.shapes-kept, stepped.Written.write-all}
+-- The steps are written over as many others.
+use Rattle.std.proofs.Common.{◌∙◌, arith}
+use Rattle.std.proofs.lemmas.List.{map-id, take_at}
 use Rattle.cfg_expr.proofs.expr.steps.steps_of.Goals as goal
+
+pub write_steps-requires : goal.write_steps-requires
+write_steps-requires g c =
+    let counted = c.step_count.ensures.steps in (
+      counted.0,
+      omega (
+        arith,
+        counted.1,
+        c.as_mut_slice.ensures.len,
+        c.in_ok-steps.ensures.len,
+        c.in_ok-steps.steps.ok.0,
+      ),
+    )
 
 pub returns : goal.returns
 returns g c =
-    let found = c.nodes-nodes.ensures.nodes in
-    let shapes = shapes-kept c.nodes-nodes.result.now found found.0 in
-    let begins : record {
-      begun = reverse c.new.result.items;
-      leaves = c.new-2.result.items;
-      steps = c.in_ok-with_capacity.field-0.items;
-    } ≡ nothing = rw (c.new.ensures.items, c.new-2.ensures.items)
-    (rw c.in_ok-with_capacity.ensures.items refl) in (
-      found.0,
-      c.in_ok-end_leaves.ensures.steps ∙ ap (λ w. w.steps ++ w.leaves)
-          (c.in_ok-write_nodes.ensures
-          ∙ ap (with_nodes (map shape c.nodes-nodes.result.now)) begins
-          ∙ ap (λ l. with_nodes l nothing) shapes) ∙ write-all found.0.tree,
+    let wrote = c.in_ok-write_steps.ensures.steps in (
+      wrote.0,
+      take_at c.write_steps.new.buffer _ c.in_ok-steps.steps.len (omega (
+        arith,
+        c.write_steps.auto.buffer,
+        c.as_mut_slice.ensures.len,
+        c.in_ok-steps.steps.ok.0,
+      )) ∙ wrote.1 ∙ map-id _,
     )
