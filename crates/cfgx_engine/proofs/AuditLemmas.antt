@@ -1,8 +1,9 @@
 -- Each target gets the value that it gets alone.
-use Rattle.std.proofs.Common.{◌≡◌, ◌∙◌, ◌≤◌, ℕ, zero, suc, Bool, List, [], ◌∷◌, ◌++◌, Option, Some}
-use Rattle.std.proofs.Common.{ap, append_assoc, append-nil, arith, length, map, sym, take}
-use Rattle.std.proofs.Common.{⊎_elim}
-use Rattle.std.specs.List.{AllZip, slice_get}
+use Rattle.std.proofs.Common.{◌≡◌, ◌∙◌, ◌≤◌, ◌<◌, ◌+◌, ◌==◌, ℕ, zero, suc, Bool, true, List, []}
+use Rattle.std.proofs.Common.{◌∷◌, ◌++◌, Option, Some, ap, append_assoc, append-nil, arith, get_or}
+use Rattle.std.proofs.Common.{length, map, sym, take, ⊎_elim}
+use Rattle.std.proofs.lemmas.List.{flat_map_more, take_more}
+use Rattle.std.specs.List.{AllZip, flat_map, slice_get}
 use Rattle.std.proofs.{Math.Seq.take-suc, lemmas.List.take_all, lemmas.Slice.Zip.all_zipped_more}
 use Rattle.std.proofs.lemmas.Option.{slice_get_cases, slice_get_within}
 use Rattle.cfgx_syntax.specs.Kleene.{EachLane, Planes, lane}
@@ -29,6 +30,34 @@ module _ {X V : Type 0} (Gives : X → V → Type 0) where
     other.1 ∙ ap (λ xs. xs ++ other.0) one.1 ∙ append_assoc old one.0 other.0,
     AllZip-append Gives items others one.0 other.0 one.2 other.2,
   )
+
+  -- outputs for one piece more
+  pub AddsEach-piece : (pieces : List (List X)) (i : ℕ) (d : List X) (old middle new : List V)
+      → i < length pieces → AddsEach Gives (flat_map (λ piece. piece) (take i pieces)) old middle
+      → AddsEach Gives (get_or pieces i d) middle new
+      → AddsEach Gives (flat_map (λ piece. piece) (take (i + 1) pieces)) old new
+  AddsEach-piece pieces i d old middle new below one other =
+      let before = take i pieces in
+      let piece = get_or pieces i d in
+      rw (take_more pieces i d below, ← flat_map_more (λ piece. piece) [] before piece)
+      (AddsEach-append (flat_map (λ piece. piece) before) piece old middle new one other)
+
+-- the pieces with one more, and what is left behind it, are all items
+pub pieces-more : {X : Type 0} (pieces : List (List X)) (piece left others all : List X)
+    → flat_map (λ piece. piece) pieces ++ left ≡ all → left ≡ piece ++ others
+    → flat_map (λ piece. piece) (pieces ++ piece ∷ []) ++ others ≡ all
+pieces-more pieces piece left others all so_far split =
+    let before = flat_map (λ piece. piece) pieces in
+    rw (← flat_map_more (λ piece. piece) [] pieces piece)
+    (append_assoc before piece others ∙ ap (λ xs. before ++ xs) (sym split) ∙ so_far)
+
+-- the pieces are all items if nothing is left
+pub pieces-end : {X : Type 0} (pieces : List (List X)) (left all : List X) (is_empty : Bool)
+    → flat_map (λ piece. piece) pieces ++ left ≡ all → is_empty ≡ (length left == 0)
+    → is_empty ≡ true → flat_map (λ piece. piece) pieces ≡ all
+pieces-end pieces [] all is_empty so_far none holds =
+    sym (append-nil (flat_map (λ piece. piece) pieces)) ∙ so_far
+pieces-end pieces (x ∷ left) all is_empty so_far none holds = absurd (grind arith)
 
 -- a relation that follows from another
 pub AllZip-weaker : {X Y : Type 0} (R S : X → Y → Type 0) → ((x : X) (y : Y) → R x y → S x y)

@@ -1,6 +1,6 @@
 pub mod AuditLemmas
 pub mod FactLemmas
-pub mod LaneAnswers
+pub mod IndexLemmas
 pub mod NameLemmas
 pub mod OneOutput
 pub mod OutputLemmas

@@ -1,6 +1,7 @@
 -- The contracts of private functions cite these definitions. No public contract does.
 pub mod AddsLine
 pub mod InLanes
+pub mod Index
 pub mod Names
 pub mod ReadsFacts
 pub mod ReadsMore

@@ -1,9 +1,9 @@
 //! Sections of a manifest, each with a condition, and what a target says of them.
-ghost use Rattle.std.specs.Prelude.{◌≡◌, ◌↔◌, [], IfOk, IsTrue, OnErr, OnOk, map};
+ghost use Rattle.std.specs.Prelude.{◌≡◌, ◌↔◌, [], false, IfOk, IsTrue, OnErr, OnOk, map};
 ghost use Rattle.std.specs.Cmp.Rules.{comparing};
 ghost use Rattle.std.specs.List.{AllZip};
 ghost use Rattle.std.proofs.Common.{rules};
-ghost use Rattle.cfg_expr.specs.Deciding.{DecidesExactly, held};
+ghost use Rattle.cfg_expr.specs.Deciding.{DecidesExactly, Held, held};
 ghost use Rattle.cfg_expr.specs.Evaluation.{IsValueBy};
 ghost use Rattle.cfgx_grammar.specs.Answer.{HasOneTree};
 ghost use Rattle.cfg_expr.specs.Filling.{three_valued};
@@ -14,9 +14,11 @@ ghost use Rattle.cfgx_engine.specs.Verdicts.{answer_by, IsVerdict, verdict_eq};
 mod auditing;
 mod by_facts;
 mod facts;
+mod index;
 mod names;
+mod parts;
 
-use auditing::{ByMatching, push_values};
+use auditing::push_values;
 pub use by_facts::{AuditError, audit_facts};
 use cfg_expr::expr::{Condition, Predicates, TargetMatcher};
 use cfg_expr::memory::SmallAllocator;
@@ -133,7 +135,8 @@ pub struct Decider<A: SmallAllocator = Global> {
 impl<A: SmallAllocator> Decider<A> {
     /// Returns a decider without answers, whose decision is `Decision::default()`. Takes no memory.
     pub fn new(alloc: A) -> Self
-        ensures { result.answers.items ≡ [] }
+        ensures answers { result.answers.items ≡ [] }
+        ensures decision { held result.decision ≡ Held.known false }
     {
         Decider {
             alloc,
@@ -243,12 +246,6 @@ pub fn audit<A: SmallAllocator, M: TargetMatcher>(
         IsVerdict (M.answer target) condition.now verdict) targets.now verdicts.items) }
 {
     let mut verdicts = Vec::with_capacity(alloc, targets.len())?;
-    push_values(
-        alloc,
-        &ByMatching,
-        &condition.condition(),
-        targets,
-        &mut verdicts,
-    )?;
+    push_values(alloc, &condition.condition(), targets, &mut verdicts)?;
     Ok(verdicts)
 }

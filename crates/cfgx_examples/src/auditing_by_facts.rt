@@ -4,19 +4,26 @@ use cfgx_engine::resolve::{AuditError, Facts, Otherwise, audit_facts};
 use cfgx_testing::answers::{Answer, answer_of};
 use std::alloc::Global;
 
-/// The facts of three targets. A fact that no condition can ask is passed over.
+/// The facts of three targets. A fact that no condition can ask is passed over. Some facts name a
+/// predicate again, or name one that is true on another target as unknown.
 const FACTS: &[&[&str]] = &[
     &[
         "unix",
         "target_os = \"linux\"",
         "target_has_atomic",
         "?feature = \"y\"",
+        "?feature = \"z\"",
+        "unix",
+        "?feature = \"z\"",
     ],
     &[
         "windows",
         "target_os = \"windows\"",
         "target_future = \"1\"",
         "feature = \"x\"",
+        "feature = \"z\"",
+        "?feature = \"w\"",
+        "feature = \"w\"",
     ],
     &[],
 ];
@@ -28,6 +35,10 @@ unix | 100 | 100
 any(windows, target_os = "linux") | 110 | 110
 feature = "x" | 010 | ?1?
 feature = "y" | ?00 | ???
+feature = "z" | ?10 | ?1?
+feature = "w" | 010 | ?1?
+all(unix, feature = "z") | ?00 | ?00
+not(any(feature = "z", feature = "w")) | ?01 | ?0?
 not(any(windows, feature = "x")) | 101 | ?0?
 all(unix, any(feature = "y", target_os = "linux")) | 100 | 100
 target_has_atomic = "8" | 000 | 000

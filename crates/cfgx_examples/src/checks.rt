@@ -18,7 +18,7 @@ use std::alloc::Global;
 const TABLES: &[TableToCheck<'static>] = &[
     ("examples", ANSWERS, 55),
     ("verdicts on many targets", AUDITED, 6),
-    ("values by facts", AUDITED_BY_FACTS, 9),
+    ("values by facts", AUDITED_BY_FACTS, 13),
     ("values with flags", BY_FLAGS, 6),
     ("terms and questions", TERMS, 12),
     ("values in logics without laws", JOINED, 14),

@@ -1,17 +1,18 @@
 -- Predicates in code, by which those that facts name are ordered and found.
-use Rattle.std.specs.Prelude.{◌≡◌, ◌≤◌, ◌==◌, ◌+◌, ℕ, List, [], ◌∷◌, codes, drop, map, take}
-use Rattle.std.specs.Prelude.{if◌then◌else◌, slice_index_or}
-use Rattle.std.specs.Cmp.Lexicographic.{slice_cmp}
+use Rattle.std.specs.Prelude.{◌≡◌, ◌≤◌, ◌==◌, ◌+◌, ℕ, Bool, List, [], ◌∷◌, ◌++◌, codes, drop}
+use Rattle.std.specs.Prelude.{if◌then◌else◌, map, nat_eq, slice_index_or, take}
+use Rattle.std.specs.Cmp.Lexicographic.{pointwise, slice_cmp}
 use Rattle.std.specs.declared.cmp.Ordering.{Ordering}
+use Rattle.std.specs.Hash as fed
 use Rattle.std.specs.{List.All, List.Sorted.IsSorted}
-use Rattle.std.specs.Ordering.{nat_cmp}
+use Rattle.std.specs.Ordering.{nat_cmp, on}
 use Rattle.cfgx_fields.specs.Endian.{endian_rank}
 use Rattle.cfgx_fields.specs.declared.endian.Endian.TheVariants.{big, little}
 use Rattle.cfgx_fields.specs.declared.atomic.HasAtomic.{HasAtomic}
 use Rattle.cfgx_fields.specs.declared.atomic.HasAtomic.TheVariants.{IntegerSize, Pointer}
 use Rattle.cfgx_grammar.specs.Question.{Question, TargetQuestion}
 use Rattle.cfgx_grammar.specs.{Spelling.spelling, WellFormed.IsWellFormed}
-use Rattle.cfgx_engine.specs.declared.resolve.names.{Named.Named, Parts.Parts}
+use Rattle.cfgx_engine.specs.declared.resolve.{names.Named.Named, parts.Parts.Parts}
 use Rattle.cfgx_engine.specs.Facts.{FactTexts}
 use Rattle.cfgx_fields.specs.declared.text_key.TextKey.TheVariants as key
 use Rattle.cfgx_parser.specs.Kinds.{kind_number, kind_of}
@@ -29,6 +30,19 @@ code_with kind number key value = (kind ∷ number ∷ []) ∷ key ∷ value ∷
 -- the code of parts
 abbrev pub code : Parts → Code
 code parts = code_with parts.kind parts.number parts.key.now parts.value.now
+
+-- whether two codes are the same
+abbrev pub code_eq : Code → Code → Bool
+code_eq = pointwise (pointwise nat_eq)
+
+-- whether two parts have the same code
+abbrev pub parts_eq : Parts → Parts → Bool
+parts_eq = on code code_eq
+
+-- what a code feeds a hasher
+abbrev pub hashed : Code → List (List ℕ)
+hashed ((kind ∷ number ∷ []) ∷ texts) = fed.u32 kind ++ fed.u16 number ++ texts
+hashed _ = []
 
 -- the number that is asked of a target, or the rank of a byte order; else 0
 abbrev pub target_number : InnerTarget → ℕ

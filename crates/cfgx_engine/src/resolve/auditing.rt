@@ -16,95 +16,107 @@ use cfg_expr::expr::{Condition, TargetMatcher};
 use cfg_expr::memory::SmallAllocator;
 use std::alloc::{AllocError, Allocator};
 
-/// A way in which targets of the type `T` answer.
-pub(super) trait Answering<T> {
-    ghost use Rattle.std.specs.Prelude.{Bool, Option};
+/// At most 64 targets of the type `T`, which are asked together.
+pub(super) trait Piece<T> {
+    ghost use Rattle.std.specs.Prelude.{Bool, List, Option};
     ghost use Rattle.cfgx_grammar.specs.Question.{Question};
+
+    /// The targets, in order.
+    ghost targets: { Self → List T };
 
     /// Holds of a target, a question and an answer that the target may give to it.
     ghost answers: { Self → T → Question → Option Bool → Type 0 };
 
-    /// Returns the answers of at most 64 targets to a predicate: lane `i` is that of target `i`.
-    fn ask(&self, targets: &[T], predicate: Predicate<'_>) -> Kleene64
-        requires { length targets.now ≤ 64 }
-        ensures { InLanes (answers self.now) targets.now (question_of predicate.entry) result };
+    /// Returns the number of targets.
+    fn count(&self) -> usize
+        ensures count { result ≡ length (targets self.now) }
+        ensures few { result ≤ 64 };
+
+    /// Returns the answers to a predicate: lane `i` is that of target `i`.
+    fn ask(&self, predicate: Predicate<'_>) -> Kleene64
+        ensures { InLanes (answers self.now) (targets self.now) (question_of predicate.entry)
+            result };
 }
 
-/// Asks matchers. A predicate that is no `Predicate::Target` is unknown.
+/// At most 64 matchers. A predicate that is no `Predicate::Target` is unknown.
 #[derive(Drop)]
-pub(super) struct ByMatching;
+struct ByMatching<'a, M> {
+    matchers: &'a [M],
+    ghost few: { length matchers.now ≤ 64 },
+}
 
-impl<M: TargetMatcher> Answering<M> for ByMatching {
+impl<M: TargetMatcher> Piece<M> for ByMatching<'_, M> {
+    ghost targets = { λ by. by.matchers.now };
+
     ghost answers = { λ _ matcher question answer. answer ≡ answer_by (M.answer matcher) question };
 
-    fn ask(&self, targets: &[M], predicate: Predicate<'_>) -> Kleene64
-        requires { length targets.now ≤ 64 }
+    fn count(&self) -> usize {
+        self.matchers.len()
+    }
+
+    fn ask(&self, predicate: Predicate<'_>) -> Kleene64
         ensures { InLanes (λ matcher question answer.
-            answer ≡ answer_by (M.answer matcher) question) targets.now
+            answer ≡ answer_by (M.answer matcher) question) self.now.matchers.now
             (question_of predicate.entry) result }
     {
         match &predicate {
-            Predicate::Target(target) => target.lanes(targets),
+            Predicate::Target(target) => target.lanes(self.matchers),
             _ => Kleene64::new(0, 0),
         }
     }
 }
 
-/// Evaluates the condition on each target, and pushes each value, converted to `V`, in order. For
-/// each 64 targets, `ask` is called once for each predicate, and the condition is evaluated once.
-pub(super) fn push_values<A: SmallAllocator, T, S: Answering<T>, V: From<Option<bool>> + Drop>(
+/// Evaluates the condition on each matcher, and pushes each value, converted to `V`, in order. For
+/// each 64 of them, each predicate is asked once, and the condition is evaluated once.
+pub(super) fn push_values<A: SmallAllocator, M: TargetMatcher, V: From<Option<bool>> + Drop>(
     alloc: A,
-    answering: &S,
     condition: &Condition<'_>,
-    targets: &[T],
+    matchers: &[M],
     values: &mut Vec<V, A>,
 ) -> Result<(), AllocError>
-    ensures { OnOk result (AddsEach
-        (λ target. TellsValue V.from_gives condition.now (S.answers answering.now target))
-        targets.now values.old.items values.new.items) }
+    ensures { OnOk result (AddsEach (λ matcher. TellsValue V.from_gives condition.now
+        (λ question answer. answer ≡ answer_by (M.answer matcher) question))
+        matchers.now values.old.items values.new.items) }
 {
-    let mut left = targets;
+    let mut left = matchers;
     while !left.is_empty() {
         let (piece, others) = left.split_at(left.len().min(64));
-        push_piece(alloc, answering, condition, piece, values)?;
+        push_piece(alloc, &ByMatching { matchers: piece }, condition, values)?;
         left = others;
     }
     Ok(())
 }
 
-/// Evaluates the condition on each of at most 64 targets, and pushes each value, converted to `V`.
-fn push_piece<A: SmallAllocator, T, S: Answering<T>, V: From<Option<bool>> + Drop>(
+/// Evaluates the condition on each target of a piece, and pushes each value, converted to `V`.
+pub(super) fn push_piece<A: SmallAllocator, T, S: Piece<T>, V: From<Option<bool>> + Drop>(
     alloc: A,
-    answering: &S,
+    piece: &S,
     condition: &Condition<'_>,
-    targets: &[T],
     values: &mut Vec<V, A>,
 ) -> Result<(), AllocError>
-    requires { length targets.now ≤ 64 }
     ensures { OnOk result (AddsEach
-        (λ target. TellsValue V.from_gives condition.now (S.answers answering.now target))
-        targets.now values.old.items values.new.items) }
+        (λ target. TellsValue V.from_gives condition.now (S.answers piece.now target))
+        (S.targets piece.now) values.old.items values.new.items) }
 {
-    let answers = ask_all(alloc, answering, condition, targets)?;
+    let answers = ask_all(alloc, piece, condition)?;
     let value = condition.eval_lanes(alloc, answers.as_slice())?;
-    push_lanes(value, targets.len(), values)
+    push_lanes(value, piece.count(), values)
 }
 
-/// Asks the targets each predicate of the condition, in order. Each target has a lane.
-fn ask_all<A: SmallAllocator, T, S: Answering<T>>(
+/// Asks a piece each predicate of the condition, in order.
+fn ask_all<A: SmallAllocator, T, S: Piece<T>>(
     alloc: A,
-    answering: &S,
+    piece: &S,
     condition: &Condition<'_>,
-    targets: &[T],
 ) -> Result<Vec<Kleene64, A>, AllocError>
-    requires { length targets.now ≤ 64 }
     ensures { IfOk result (λ answers. (one : HasOneTree condition.now)
-        × AllZip (InLanes (S.answers answering.now) targets.now) (asked one.tree) answers.items) }
+        × AllZip (InLanes (S.answers piece.now) (S.targets piece.now)) (asked one.tree)
+        answers.items) }
 {
     let predicates = condition.predicates();
     let mut answers = Vec::with_capacity(alloc, predicates.left())?;
     for predicate in predicates {
-        answers.push(answering.ask(targets, predicate))?;
+        answers.push(piece.ask(predicate))?;
     }
     Ok(answers)
 }

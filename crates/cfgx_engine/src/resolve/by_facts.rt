@@ -1,7 +1,7 @@
 //! The values of many conditions on many targets that answer by their facts.
 ghost use Rattle.std.specs.Prelude.{◌≡◌, ◌≤◌, length, map};
 ghost use Rattle.std.specs.Prelude.{Err, IfErr, IfOk, IfSome, OnOk};
-ghost use Rattle.std.specs.List.{AllByRecursion};
+ghost use Rattle.std.specs.List.{AllByRecursion, flat_map};
 ghost use Rattle.cfgx_syntax.specs.Error.{failure_of};
 ghost use Rattle.cfgx_syntax.specs.Stripping.{strip};
 ghost use Rattle.cfgx_grammar.specs.Answer.{HasOneTree};
@@ -13,56 +13,112 @@ ghost use Rattle.cfgx_engine.specs.Request.{texts};
 ghost use Rattle.cfgx_engine.specs.internal.InLanes.{AddsEach, InLanes, TellsValue};
 ghost use Rattle.cfgx_engine.specs.internal.Shows.{Fails};
 
-use super::auditing::{Answering, push_values};
+use super::auditing::{Piece, push_piece};
 use super::facts::{Facts, Otherwise, unnamed_answer};
-use super::names::Parts;
+use super::index::{Index, all_lanes, answers_to};
+use super::parts::Parts;
 use cfg_expr::Predicate;
 use cfg_expr::error::Failure;
-use cfg_expr::expr::ConditionReader;
-use cfg_expr::expr::logic::Kleene64;
+use cfg_expr::expr::logic::{Kleene64, Logic};
+use cfg_expr::expr::{Condition, ConditionReader};
 use cfg_expr::memory::SmallAllocator;
-use std::alloc::{Allocator, Global};
+use std::alloc::{AllocError, Allocator, Global};
+use std::collections::HashMap;
+use std::marker::Model;
 
-/// Asks the facts of targets.
+/// At most 64 targets, and the index of their facts. Contracts see the targets.
 #[derive(Drop)]
-struct ByFacts {
+struct Indexed<'a, A: SmallAllocator> {
+    targets: &'a [Facts<A>],
+    index: Index<'a, A>,
+}
+
+impl<'a, A: SmallAllocator> Model for Indexed<'a, A> {
+    ghost use Rattle.std.specs.Prelude.{◌≤◌, length, List};
+    ghost use Rattle.cfgx_engine.specs.Facts.{FactTexts};
+    ghost use Rattle.cfgx_engine.specs.internal.Index.{IsIndexOf};
+
+    ghost Value = { List FactTexts };
+
+    ghost view = { λ indexed. indexed.targets.now };
+
+    ghost invariant = { λ indexed. (length indexed.targets.now ≤ 64)
+        × IsIndexOf indexed.targets.now indexed.index };
+}
+
+impl<'a, A: SmallAllocator> Indexed<'a, A> {
+    /// Makes the index of at most 64 targets.
+    fn of(alloc: A, targets: &'a [Facts<A>]) -> Result<Indexed<'a, A>, AllocError>
+        requires { length targets.now ≤ 64 }
+        ensures { IfOk result (λ indexed. indexed ≡ targets.now) }
+    {
+        let mut index = HashMap::new(alloc);
+        for lane in 0..targets.len() {
+            targets[lane].join_to(&mut index, lane)?;
+        }
+        Ok(Indexed { targets, index })
+    }
+
+    /// Returns the number of targets.
+    fn count(&self) -> usize
+        ensures count { result ≡ length self.now }
+        ensures few { result ≤ 64 }
+    {
+        self.targets.len()
+    }
+
+    /// Returns the answers to a predicate: lane `i` is that of target `i`.
+    fn ask(&self, predicate: &Predicate<'_>, otherwise: Otherwise) -> Kleene64
+        ensures { InLanes (λ facts. IsAnswer facts otherwise) self.now
+            (question_of predicate.now) result }
+    {
+        let named = answers_to(&self.index, &Parts::of(predicate));
+        named.or(all_lanes(unnamed_answer(predicate, otherwise)))
+    }
+}
+
+/// Targets that answer by their facts.
+#[derive_where(Clone, Copy)]
+struct ByFacts<'p, 'a, A: SmallAllocator> {
+    indexed: &'p Indexed<'a, A>,
     /// The answer to a predicate that no fact names
     otherwise: Otherwise,
 }
 
-impl<A: SmallAllocator> Answering<Facts<A>> for ByFacts {
+impl<A: SmallAllocator> Piece<Facts<A>> for ByFacts<'_, '_, A> {
     ghost use Rattle.cfgx_engine.specs.Facts.{IsAnswer};
 
-    ghost answers = { λ answering facts. IsAnswer facts answering.otherwise };
+    ghost targets = { λ by. by.indexed.now };
 
-    fn ask(&self, targets: &[Facts<A>], predicate: Predicate<'_>) -> Kleene64
-        requires { length targets.now ≤ 64 }
-        ensures { InLanes (λ facts. IsAnswer facts self.now.otherwise) targets.now
+    ghost answers = { λ by facts. IsAnswer facts by.otherwise };
+
+    fn count(&self) -> usize {
+        self.indexed.count()
+    }
+
+    fn ask(&self, predicate: Predicate<'_>) -> Kleene64
+        ensures { InLanes (λ facts. IsAnswer facts self.now.otherwise) self.now.indexed.now
             (question_of predicate.entry) result }
     {
-        answers_in_lanes(targets, &predicate, self.otherwise)
+        self.indexed.ask(&predicate, self.otherwise)
     }
 }
 
-/// Returns the answers of the facts of at most 64 targets: lane `i` is that of target `i`.
-fn answers_in_lanes<A: SmallAllocator>(
+/// Returns the targets in pieces of 64, each with its index.
+fn indexed_pieces<A: SmallAllocator>(
+    alloc: A,
     targets: &[Facts<A>],
-    predicate: &Predicate<'_>,
-    otherwise: Otherwise,
-) -> Kleene64
-    requires { length targets.now ≤ 64 }
-    ensures { InLanes (λ facts. IsAnswer facts otherwise) targets.now
-        (question_of predicate.now) result }
+) -> Result<Vec<Indexed<'_, A>, A>, AllocError>
+    ensures { IfOk result (λ pieces. flat_map (λ piece. piece) pieces.items ≡ targets.now) }
 {
-    let asked = Parts::of(predicate);
-    let unnamed = unnamed_answer(predicate, otherwise);
-    let mut answers = Kleene64::new(0, 0);
+    let mut pieces = Vec::new(alloc);
     let mut left = targets;
-    while let Some((facts, before)) = left.split_last() {
-        answers = answers.push_front(facts.answer_to(&asked, unnamed));
-        left = before;
+    while !left.is_empty() {
+        let (piece, others) = left.split_at(left.len().min(64));
+        pieces.push(Indexed::of(alloc, piece)?)?;
+        left = others;
     }
-    answers
+    Ok(pieces)
 }
 
 /// Why an audit ended without values.
@@ -79,8 +135,9 @@ pub struct AuditError<A: Allocator = Global> {
 /// of condition `i` on target `j`. A target answers by its facts, and `otherwise` is the answer to
 /// a predicate that no fact names.
 ///
-/// Each condition is read once. Targets are taken in pieces of 64: each predicate is asked once of
-/// each target, and the condition is evaluated once for each piece.
+/// Targets are taken in pieces of 64, and the facts of each piece are indexed once. Then each
+/// condition is read once. For each piece, each of its predicates is looked up once, and it is
+/// evaluated once.
 ///
 /// # Errors
 ///
@@ -101,11 +158,19 @@ pub fn audit_facts<A: SmallAllocator>(
     // This also holds if the call is out of memory.
     ensures index { IfErr result (λ error. FollowsConditions (texts conditions.now) error.index) }
 {
-    let mut reader = ConditionReader::new(alloc);
     let mut values = Vec::new(alloc);
+    if conditions.is_empty() {
+        return Ok(values);
+    }
+    let Ok(pieces) = indexed_pieces(alloc, targets) else {
+        let failure = Failure::Memory(AllocError);
+        return Err(AuditError { index: 0, failure });
+    };
+    let pieces = pieces.as_slice();
+    let mut reader = ConditionReader::new(alloc);
     for index in 0..conditions.len() {
         let text = conditions[index];
-        if let Err(failure) = push_text(alloc, &mut reader, text, targets, otherwise, &mut values) {
+        if let Err(failure) = push_text(alloc, &mut reader, text, pieces, otherwise, &mut values) {
             return Err(AuditError { index, failure });
         }
     }
@@ -117,16 +182,34 @@ fn push_text<'a, A: SmallAllocator>(
     alloc: A,
     reader: &mut ConditionReader<'a, A>,
     text: &'a str,
-    targets: &[Facts<A>],
+    pieces: &[Indexed<'_, A>],
     otherwise: Otherwise,
     values: &mut Vec<Option<bool>, A>,
 ) -> Result<(), Failure<A>>
     ensures values { OnOk result (AddsEach (λ facts. TellsValue (λ value output. output ≡ value)
-        (strip text.now) (IsAnswer facts otherwise)) targets.now values.old.items
-        values.new.items) }
+        (strip text.now) (IsAnswer facts otherwise)) (flat_map (λ piece. piece) pieces.now)
+        values.old.items values.new.items) }
     ensures condition { OnOk result (HasOneTree (strip text.now)) }
     ensures err { IfErr result (Fails (λ fault. ParsesAs text.now (Err fault))) }
 {
     let condition = reader.read(text)?;
-    Ok(push_values(alloc, &ByFacts { otherwise }, &condition, targets, values)?)
+    Ok(push_pieces(alloc, pieces, otherwise, &condition, values)?)
+}
+
+/// Evaluates the condition on each target of the pieces, and pushes each value.
+fn push_pieces<A: SmallAllocator>(
+    alloc: A,
+    pieces: &[Indexed<'_, A>],
+    otherwise: Otherwise,
+    condition: &Condition<'_>,
+    values: &mut Vec<Option<bool>, A>,
+) -> Result<(), AllocError>
+    ensures { OnOk result (AddsEach (λ facts. TellsValue (λ value output. output ≡ value)
+        condition.now (IsAnswer facts otherwise)) (flat_map (λ piece. piece) pieces.now)
+        values.old.items values.new.items) }
+{
+    for indexed in pieces {
+        push_piece(alloc, &ByFacts { indexed, otherwise }, condition, values)?;
+    }
+    Ok(())
 }

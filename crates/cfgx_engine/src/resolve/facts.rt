@@ -1,5 +1,5 @@
 //! Facts of a target, and what they answer to predicates.
-ghost use Rattle.std.specs.Prelude.{◌≡◌, ◌↔◌, Err, IfErr, IsTrue, OnOk, false};
+ghost use Rattle.std.specs.Prelude.{◌≡◌, ◌<◌, ◌↔◌, Err, IfErr, IsTrue, OnOk, false};
 ghost use Rattle.std.specs.Cmp.Rules.{comparing};
 ghost use Rattle.std.proofs.Common.{rules};
 ghost use Rattle.cfgx_syntax.specs.Stripping.{strip};
@@ -8,6 +8,7 @@ ghost use Rattle.cfgx_engine.specs.Facts.{IsAnswer, IsFlag, IsRustcFact, ReadsFa
 ghost use Rattle.cfgx_engine.specs.Facts.{fact_text, otherwise_eq, unnamed_answer};
 ghost use Rattle.cfgx_grammar.specs.Question.{Question};
 ghost use Rattle.cfgx_engine.specs.declared.resolve.facts.Otherwise.{Otherwise};
+ghost use Rattle.cfgx_engine.specs.internal.Index.{JoinsTarget};
 ghost use Rattle.cfgx_engine.specs.internal.Names.{AreNames, code, code_of, facts_in};
 ghost use Rattle.cfgx_engine.specs.internal.ReadsFacts.{AddsFact, AddsText, accepts};
 ghost use Rattle.cfgx_engine.specs.internal.ReadsFacts.{error_at, passes_over};
@@ -15,7 +16,9 @@ ghost use Rattle.cfgx_engine.specs.internal.Shows.{Fails};
 ghost use Rattle.cfgx_engine.specs.Readings.{ParsesAs};
 ghost use Rattle.cfgx_engine.specs.Request.{texts};
 
-use super::names::{Names, Parts};
+use super::index::{Index, one_lane};
+use super::names::Names;
+use super::parts::Parts;
 use cfg_expr::Predicate;
 use cfg_expr::error::{Failure, ParseError};
 use cfg_expr::expr::ConditionReader;
@@ -197,7 +200,7 @@ impl<A: SmallAllocator> Facts<A> {
 
     /// Returns the answer of the facts to the predicate with the parts `asked`, which is `unnamed`
     /// if no fact names it.
-    pub(super) fn answer_to(&self, asked: &Parts<'_>, unnamed: Option<bool>) -> Option<bool>
+    fn answer_to(&self, asked: &Parts<'_>, unnamed: Option<bool>) -> Option<bool>
         ensures { (question : Question) (otherwise : Otherwise) → code asked.now ≡ code_of question
             → unnamed ≡ unnamed_answer otherwise question
             → IsAnswer self.now otherwise question result }
@@ -209,6 +212,20 @@ impl<A: SmallAllocator> Facts<A> {
         } else {
             unnamed
         }
+    }
+
+    /// Joins to `index`, in the lane `lane`, what the facts answer if what no fact names is false.
+    /// Before, the lane is false for every predicate.
+    pub(super) fn join_to<'a>(
+        &'a self,
+        index: &mut Index<'a, A>,
+        lane: usize,
+    ) -> Result<(), AllocError>
+        requires { lane < 64 }
+        ensures { OnOk result (JoinsTarget self.now lane index.old index.new) }
+    {
+        self.true_names.join_to(index, one_lane(lane, Some(true)))?;
+        self.unknown_names.join_to(index, one_lane(lane, None))
     }
 }
 

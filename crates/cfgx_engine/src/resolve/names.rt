@@ -3,88 +3,17 @@ ghost use Rattle.std.specs.Prelude.{◌≡◌, ◌↔◌, ◌++◌, ◌∷◌, [
 ghost use Rattle.std.specs.Prelude.{IsTrue, OnOk};
 ghost use Rattle.std.specs.List.{Contains};
 ghost use Rattle.std.specs.List.Sorted.{IsPermutation, IsSorted};
-ghost use Rattle.cfg_expr.specs.Predicate.{question_of, target_of};
-ghost use Rattle.cfgx_grammar.specs.Question.{Question};
-ghost use Rattle.cfgx_engine.specs.internal.Names.{key_of, number_of, text_of};
+ghost use Rattle.cfg_expr.specs.Predicate.{question_of};
 
+use super::index::{Index, join};
+use super::parts::Parts;
 use cfg_expr::Predicate;
-use cfg_expr::expr::{Predicates, TargetPredicate};
-use cfg_expr::targets::{Endian, HasAtomic};
-use cfgx_parser::nodes::InnerTarget;
+use cfg_expr::expr::Predicates;
+use cfg_expr::expr::logic::Kleene64;
+use cfg_expr::memory::SmallAllocator;
 use std::alloc::{AllocError, Allocator};
 use std::cmp::Ordering;
 use std::marker::Model;
-
-/// A predicate in parts. Different predicates have different parts.
-#[derive(Clone, Copy)]
-pub(super) struct Parts<'a> {
-    /// The number of its kind
-    kind: u32,
-    /// Its value, if that is a number; 1 for the byte order `little`; else 0
-    number: u16,
-    /// Its key, if the kind does not say it
-    key: &'a [u8],
-    /// Its value, if that is a text or the width `ptr`, else empty
-    value: &'a [u8],
-}
-
-impl<'a> Parts<'a> {
-    ghost use Rattle.cfgx_engine.specs.internal.Names.{code, code_of};
-
-    /// Returns the parts of a predicate.
-    pub(super) fn of(predicate: &'a Predicate<'_>) -> Parts<'a>
-        ensures { code result ≡ code_of (question_of predicate.now) }
-    {
-        let (number, text) = value_of(predicate);
-        Parts {
-            kind: predicate.kind().number(),
-            number,
-            key: key_of(predicate).as_bytes(),
-            value: text.as_bytes(),
-        }
-    }
-}
-
-/// Returns the key of a predicate, if the kind does not say it, else an empty text.
-fn key_of<'a>(predicate: &'a Predicate<'_>) -> &'a str
-    ensures { result.now ≡ key_of (question_of predicate.now) }
-{
-    match predicate {
-        Predicate::Flag(key) | Predicate::KeyValue { key, .. } => *key,
-        _ => "",
-    }
-}
-
-/// Returns the value of a predicate as a number and a text. The number is 0 if the value is a text,
-/// and the text is empty if it is a number.
-fn value_of<'a>(predicate: &'a Predicate<'_>) -> (u16, &'a str)
-    ensures number { result.0 ≡ number_of (question_of predicate.now) }
-    ensures text { result.1.now ≡ text_of (question_of predicate.now) }
-{
-    match predicate {
-        Predicate::Target(target) => target_value(target),
-        Predicate::Feature(name) | Predicate::TargetFeature(name) => (0, *name),
-        Predicate::KeyValue { val, .. } => (0, *val),
-        Predicate::Test | Predicate::DebugAssertions | Predicate::ProcMacro | Predicate::Flag(_) =>
-            (0, ""),
-    }
-}
-
-/// Returns the value of a predicate on the target as a number and a text. An atomic of the width
-/// `ptr` has this text.
-fn target_value<'a>(target: &'a TargetPredicate<'_>) -> (u16, &'a str)
-    ensures number { result.0 ≡ number_of (Question.target (target_of target.now)) }
-    ensures text { result.1.now ≡ text_of (Question.target (target_of target.now)) }
-{
-    let (asked, text) = target.parts();
-    match asked {
-        InnerTarget::Text(_) | InnerTarget::Endian(Endian::big) => (0, text),
-        InnerTarget::Endian(Endian::little) => (1, text),
-        InnerTarget::HasAtomic(HasAtomic::IntegerSize(bits)) => (bits, text),
-        InnerTarget::HasAtomic(HasAtomic::Pointer) => (0, "ptr"),
-        InnerTarget::PointerWidth(bits) => (u16::from(bits), text),
-    }
-}
 
 /// A predicate that facts name. Its key and its value stand one behind the other in a buffer.
 #[derive(Clone, Copy, Debug)]
@@ -172,6 +101,7 @@ impl<A: Allocator> Model for Names<A> {
 }
 
 impl<A: Allocator> Names<A> {
+    ghost use Rattle.cfgx_engine.specs.internal.Index.{Joins};
     ghost use Rattle.cfgx_engine.specs.internal.Names.{code, code_cmp, code_of};
 
     /// Makes an empty list. Takes no memory.
@@ -253,5 +183,23 @@ impl<A: Allocator> Names<A> {
             .named
             .binary_search_by(|named| named.compare(buffer, asked));
         found.is_ok()
+    }
+
+    /// Joins `answers` to those that `index` has for each of the predicates.
+    pub(super) fn join_to<'a>(
+        &'a self,
+        index: &mut Index<'a, A>,
+        answers: Kleene64,
+    ) -> Result<(), AllocError>
+    where
+        A: SmallAllocator,
+        ensures { OnOk result (Joins self.now answers index.old index.new) }
+    {
+        let buffer = self.buffer.as_slice();
+        let all = self.named.as_slice();
+        for named in all {
+            join(index, &named.parts(buffer), answers)?;
+        }
+        Ok(())
     }
 }

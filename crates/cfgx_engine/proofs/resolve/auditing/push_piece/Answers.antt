@@ -7,18 +7,21 @@ use Rattle.cfgx_engine.proofs.resolve.auditing.push_piece.Goals as goal
 
 pub eval_lanes-requires : goal.eval_lanes-requires
 eval_lanes-requires g c =
+    let piece = c.args.piece.now in
     let found = c.in_ok-answers.ensures in (
       found.0.tree,
       found.0.reads.has,
       ap length c.as_slice.ensures.value
-          ∙ AllZip-long (InLanes (g.S.Answering.answers c.args.answering.now) c.args.targets.now)
+          ∙ AllZip-long (InLanes (g.S.Piece.answers piece) (g.S.Piece.targets piece))
           (asked found.0.tree) c.in_ok-answers.answers.items found.1,
     )
 
 pub returns : goal.returns
 returns g c =
+    let piece = c.args.piece.now in
     let value = c.in_ok-value.ensures.value in
-    on_ok_weaker c.push_lanes.result (lanes-told c.args.targets.now
-    (g.S.Answering.answers c.args.answering.now) g.V.From.from_gives c.in_ok-answers.answers.items
-    c.as_slice.result.now c.in_ok-value.value _ _ c.requires c.as_slice.ensures.value
-    c.in_ok-answers.ensures (value.0, value.2)) c.push_lanes.ensures
+    on_ok_weaker c.push_lanes.result (lanes-told (g.S.Piece.targets piece)
+    (g.S.Piece.answers piece) g.V.From.from_gives c.in_ok-answers.answers.items
+    c.as_slice.result.now c.in_ok-value.value _ _ (rw c.count.ensures.count at c.count.ensures.few)
+    c.as_slice.ensures.value c.in_ok-answers.ensures (value.0, value.2))
+    (rw c.count.ensures.count at c.push_lanes.ensures)

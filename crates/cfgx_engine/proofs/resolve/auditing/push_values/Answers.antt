@@ -1,6 +1,7 @@
--- The values on the next piece are added. In the end no target is left.
-use Rattle.std.proofs.Common.{◌++◌, [], append_assoc, refl}
-use Rattle.cfgx_engine.specs.internal.InLanes.{TellsValue}
+-- The values on the next piece are added. In the end no matcher is left.
+use Rattle.std.proofs.Common.{◌≡◌, ◌++◌, [], Bool, Option, append_assoc, refl}
+use Rattle.cfgx_grammar.specs.Question.{Question}
+use Rattle.cfgx_engine.specs.{Verdicts.answer_by, internal.InLanes.TellsValue}
 use Rattle.cfgx_engine.proofs.AuditLemmas.{AddsEach-append, AddsEach-none}
 use Rattle.cfgx_engine.proofs.resolve.auditing.push_values.Goals as goal
 
@@ -8,8 +9,9 @@ pub loop-left-init : goal.loop-left-init
 loop-left-init g c = (
   [],
   refl,
-  AddsEach-none (λ (target : g.row.T.Denot). TellsValue g.V.From.from_gives c.args.condition.now
-      (g.S.Answering.answers c.args.answering.now target)) c.args.values.now.items,
+  AddsEach-none (λ (matcher : g.row.M.Denot). TellsValue g.V.From.from_gives c.args.condition.now
+      (λ (question : Question) (answer : Option Bool).
+      answer ≡ answer_by (g.M.TargetMatcher.answer matcher) question)) c.args.values.now.items,
 )
 
 pub loop-left-preserved : goal.loop-left-preserved

@@ -9,7 +9,7 @@ pub loop-index-init : goal.loop-index-init
 loop-index-init g c = (
   tt,
   rw c.new-values.ensures.items
-      (AreValues-none (λ (facts : FactTexts). IsAnswer facts c.args.otherwise) c.args.targets.now),
+      (AreValues-none (λ (facts : FactTexts). IsAnswer facts c.args.otherwise) _),
 )
 
 -- the text is the first that is faulty
@@ -27,14 +27,18 @@ returns-in-Err-clause-index g c =
 -- the values of one condition more
 pub loop-index-preserved : goal.loop-index-preserved
 loop-index-preserved g c =
-    values-more (λ (facts : FactTexts). IsAnswer facts c.args.otherwise) c.args.targets.now
+    values-more (λ (facts : FactTexts). IsAnswer facts c.args.otherwise) _
     c.args.conditions.now c.loop-index.index _ _ _ c.loop-index-test.true c.loop-index.invariant
-    c.in_default.ensures.condition c.in_default.ensures.values
+    c.in_default-push_text.ensures.condition c.in_default-push_text.ensures.values
 
 -- no condition is left
 pub returns-clause-ok : goal.returns-clause-ok
 returns-clause-ok g c =
-    rw (take_all _ _ c.loop-index-test.false) at c.loop-index.invariant.1
+    rw (
+      take_all _ _ c.loop-index-test.false,
+      c.as_slice-pieces.ensures.value,
+      c.in-Ok.ensures,
+    ) at c.loop-index.invariant.1
 
 pub returns-clause-conditions : goal.returns-clause-conditions
 returns-clause-conditions g c =

@@ -1,5 +1,5 @@
 use Rattle.std.proofs.Common.{map, take}
-use Rattle.std.specs.List.{AllByRecursion}
+use Rattle.std.specs.List.{AllByRecursion, flat_map}
 use Rattle.cfgx_syntax.specs.Stripping.{strip}
 use Rattle.cfgx_grammar.specs.Answer.{HasOneTree}
 use Rattle.cfgx_engine.specs.{Audits.AreValues, Facts.IsAnswer, Request.texts}
@@ -9,4 +9,5 @@ use Rattle.cfgx_engine.proofs.resolve.by_facts.audit_facts.Given as goal
 abbrev pub invariant-loop-index : goal.invariant-loop-index
 invariant-loop-index g l = let passed = texts (take l.index l.conditions) in
     AllByRecursion (λ text. HasOneTree (strip text)) passed
-    × AreValues (λ facts. IsAnswer facts l.fn.otherwise) (map strip passed) l.targets l.values.items
+    × AreValues (λ facts. IsAnswer facts l.otherwise) (map strip passed)
+    (flat_map (λ piece. piece) l.pieces) l.values.items
