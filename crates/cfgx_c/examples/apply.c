@@ -97,12 +97,12 @@ int main(int count, char **word)
     }
     expect_version();
     size_t step_count, asked, length = strlen(word[1]);
-    uint32_t status = cfgx_compile(word[1], length, NULL, 0, &step_count, NULL, 0, &asked);
+    uint32_t status = cfgx_compile(word[1], length, NULL, 0, &step_count, NULL, 0, &asked, NULL);
     struct cfgx_step *steps = new_block(step_count, sizeof *steps);
     struct cfgx_predicate *predicates = new_block(asked, sizeof *predicates);
     if (status == CFGX_STATUS_DONE) {
         status = cfgx_compile(word[1], length, steps, step_count, &step_count, predicates, asked,
-                              &asked);
+                              &asked, NULL);
     }
     if (status == CFGX_STATUS_DONE) {
         status = print_values(steps, step_count, asked);

@@ -6,16 +6,19 @@ import ctypes
 import sys
 from ctypes import POINTER, c_char_p, c_size_t, c_uint8, c_uint32
 
-VERSION = 2_002_000
+VERSION = 2_002_001
 DONE, FAULTY, WRONG_USE, OUT_OF_MEMORY, NOT_UTF8, FAULTY_FACT = 0, 1, 2, 3, 4, 9
 STATUSES = (
     "done", "a faulty text", "wrong use", "out of memory", "not UTF-8", "miscounted answers",
-    "bad ends", "the steps of no condition", "too many values", "a faulty fact",
+    "bad ends", "steps without a value", "too many values", "a faulty fact",
 )
 KINDS = (
     "", "flag", "key_value", "test", "debug_assertions", "proc_macro", "feature",
     "target_feature", "abi", "arch", "endian", "env", "family", "has_atomic", "os", "panic",
     "pointer_width", "vendor",
+)
+TOKENS = (
+    "", "key", "value", "equals", "all", "any", "not", "open_paren", "close_paren", "comma",
 )
 BYTES = POINTER(c_uint8)
 SIZES = POINTER(c_size_t)
@@ -25,13 +28,13 @@ LIST = (c_char_p, c_size_t, SIZES, c_size_t)
 
 class Fault(ctypes.Structure):
     """The struct cfgx_fault."""
-    _fields_ = [(name, c_size_t) for name in ("offset", "start", "end", "members")]
+    _fields_ = [(name, c_size_t) for name in ("item", "offset", "start", "end", "members")]
     _fields_ += [("reason", c_uint32), ("terms", c_uint32)]
 
 
 class Predicate(ctypes.Structure):
     """The struct cfgx_predicate."""
-    _fields_ = [("kind", c_uint32), ("number", c_uint32)]
+    _fields_ = [("kind", c_uint32), ("number", c_uint32), ("start", c_size_t), ("end", c_size_t)]
     _fields_ += [("key_start", c_size_t), ("key_end", c_size_t)]
     _fields_ += [("value_start", c_size_t), ("value_end", c_size_t)]
 
@@ -41,35 +44,44 @@ class Step(ctypes.Structure):
     _fields_ = [("kind", c_uint32), ("count", c_size_t)]
 
 
+class Token(ctypes.Structure):
+    """The struct cfgx_token."""
+    _fields_ = [("kind", c_uint32), ("start", c_size_t), ("end", c_size_t)]
+
+
+FAULT = POINTER(Fault)
 ARGUMENTS = {
     "version": (),
-    "check": (*TEXT, POINTER(Fault)),
-    "explain": (*TEXT, BYTES, c_size_t, SIZES),
-    "predicates": (*TEXT, POINTER(Predicate), c_size_t, SIZES),
-    "value": (*TEXT, c_char_p, c_size_t, BYTES),
-    "decide": (*TEXT, c_char_p, c_size_t, BYTES, c_size_t, SIZES, BYTES),
-    "answers": (*TEXT, *LIST, c_uint8, BYTES, c_size_t, SIZES),
-    "compile": (*TEXT, POINTER(Step), c_size_t, SIZES, POINTER(Predicate), c_size_t, SIZES),
+    "check": (*TEXT, FAULT),
+    "explain": (*TEXT, BYTES, c_size_t, SIZES, FAULT),
+    "predicates": (*TEXT, POINTER(Predicate), c_size_t, SIZES, FAULT),
+    "value": (*TEXT, c_char_p, c_size_t, BYTES, FAULT),
+    "decide": (*TEXT, c_char_p, c_size_t, BYTES, c_size_t, SIZES, BYTES, FAULT),
+    "answers": (*TEXT, *LIST, c_uint8, BYTES, c_size_t, SIZES, FAULT),
+    "compile": (
+        *TEXT, POINTER(Step), c_size_t, SIZES, POINTER(Predicate), c_size_t, SIZES, FAULT,
+    ),
     "apply": (POINTER(Step), c_size_t, c_char_p, c_size_t, BYTES),
-    "audit": (*LIST, *LIST, SIZES, c_size_t, c_uint8, BYTES, c_size_t, SIZES, SIZES),
+    "audit": (*LIST, *LIST, SIZES, c_size_t, c_uint8, BYTES, c_size_t, SIZES, FAULT),
+    "tokens": (*TEXT, POINTER(Token), c_size_t, SIZES, SIZES, FAULT),
     "run": (*LIST, c_char_p, c_size_t, BYTES, c_size_t, SIZES),
 }
 
 
 class CfgxError(Exception):
     """A status other than that of a result, and the number of the text or the fact at fault if the
-    call told it."""
+    call has several."""
 
-    def __init__(self, status, place=None):
-        super().__init__(STATUSES[status] + ("" if place is None else f", number {place}"))
+    def __init__(self, status, item=None):
+        super().__init__(STATUSES[status] + ("" if item is None else f", number {item}"))
         self.status = status
-        self.place = place
+        self.item = item
 
 
-def expect_done(status, place=None):
+def expect_done(status, item=None):
     """Raises the status, unless it is that of a result."""
     if status != DONE:
-        raise CfgxError(status, place)
+        raise CfgxError(status, item)
 
 
 def run_example(main, usage, most=None):
@@ -149,7 +161,7 @@ class Cfgx:
     def explain(self, text):
         """Returns what is wrong with a text, or None if it is a condition."""
         status, message = filled(
-            c_uint8, lambda *buffer: self.call("explain", text, len(text), *buffer)
+            c_uint8, lambda *buffer: self.call("explain", text, len(text), *buffer, Fault())
         )
         if status == FAULTY:
             return bytes(message)
@@ -159,7 +171,7 @@ class Cfgx:
     def predicates(self, text):
         """Returns the predicates of a condition, in the order in which they are asked."""
         status, predicates = filled(
-            Predicate, lambda *buffer: self.call("predicates", text, len(text), *buffer)
+            Predicate, lambda *buffer: self.call("predicates", text, len(text), *buffer, Fault())
         )
         expect_done(status)
         return predicates
@@ -167,15 +179,15 @@ class Cfgx:
     def value(self, text, answers):
         """Returns the value of a condition over the answers to its predicates."""
         value = c_uint8()
-        expect_done(self.call("value", text, len(text), *bytes_of(answers), value))
+        expect_done(self.call("value", text, len(text), *bytes_of(answers), value, Fault()))
         return value_of(value.value)
 
     def decide(self, text, answers):
         """Returns the value of a condition, and the fillings that make it true and false if the
         value is unknown."""
-        value, given = c_uint8(), bytes_of(answers)
+        value, given = c_uint8(), (text, len(text), *bytes_of(answers))
         status, fillings = filled(
-            c_uint8, lambda *buffer: self.call("decide", text, len(text), *given, *buffer, value)
+            c_uint8, lambda *buffer: self.call("decide", *given, *buffer, value, Fault())
         )
         expect_done(status)
         both = [value_of(byte) for byte in fillings]
@@ -184,9 +196,9 @@ class Cfgx:
     def answers(self, text, facts, otherwise=False):
         """Returns the answers of facts to the predicates of a condition. With `otherwise` None,
         predicates that are not on the target are unknown if no fact names them."""
-        given = (*list_of(facts), bytes_of([otherwise])[0][0])
+        given = (text, len(text), *list_of(facts), bytes_of([otherwise])[0][0])
         status, answers = filled(
-            c_uint8, lambda *buffer: self.call("answers", text, len(text), *given, *buffer)
+            c_uint8, lambda *buffer: self.call("answers", *given, *buffer, Fault())
         )
         expect_done(status)
         return [value_of(byte) for byte in answers]
@@ -196,7 +208,7 @@ class Cfgx:
         steps, predicates, counts = (Step * 0)(), (Predicate * 0)(), (c_size_t(), c_size_t())
         while True:
             expect_done(self.call("compile", text, len(text), steps, len(steps), counts[0],
-                                  predicates, len(predicates), counts[1]))
+                                  predicates, len(predicates), counts[1], Fault()))
             if (len(steps), len(predicates)) == (counts[0].value, counts[1].value):
                 return steps[:], predicates[:]
             steps, predicates = (Step * counts[0].value)(), (Predicate * counts[1].value)()
@@ -211,22 +223,34 @@ class Cfgx:
     def audit(self, texts, targets, otherwise=False):
         """Returns, for each condition, its values on the targets, each of which is a list of
         facts."""
-        ends, facts, place = [], [], c_size_t()
+        ends, facts, fault = [], [], Fault()
         for target in targets:
             facts += target
             ends.append(len(facts))
         given = (*list_of(texts), *list_of(facts), (c_size_t * len(ends))(*ends), len(ends),
                  bytes_of([otherwise])[0][0])
         status, values = filled(
-            c_uint8, lambda *buffer: self.call("audit", *given, *buffer, place)
+            c_uint8, lambda *buffer: self.call("audit", *given, *buffer, fault)
         )
-        is_placed = status in (FAULTY, NOT_UTF8, FAULTY_FACT)
-        expect_done(status, place.value if is_placed else None)
+        is_told = status in (FAULTY, NOT_UTF8, FAULTY_FACT)
+        expect_done(status, fault.item if is_told else None)
         rows = range(len(texts))
         return [
             [value_of(byte) for byte in values[row * len(ends):(row + 1) * len(ends)]]
             for row in rows
         ]
+
+    def tokens(self, text):
+        """Returns the tokens of a text up to its lexical fault, where the stripped text begins, and
+        this fault, or None if there is none."""
+        offset, fault = c_size_t(), Fault()
+        status, tokens = filled(
+            Token, lambda *buffer: self.call("tokens", text, len(text), *buffer, offset, fault)
+        )
+        if status == FAULTY:
+            return tokens, offset.value, fault
+        expect_done(status)
+        return tokens, offset.value, None
 
     def run(self, words, text=b""):
         """Returns the status with which cfgx ends, and what it prints."""

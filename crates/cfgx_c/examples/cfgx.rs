@@ -14,10 +14,25 @@ use std::process::ExitCode;
 pub struct Predicate {
     pub kind: u32,
     pub number: u32,
+    pub start: usize,
+    pub end: usize,
     pub key_start: usize,
     pub key_end: usize,
     pub value_start: usize,
     pub value_end: usize,
+}
+
+/// `struct cfgx_fault` of `cfgx.h`.
+#[repr(C)]
+#[derive(Clone, Copy, Debug, Default, PartialEq)]
+pub struct Fault {
+    pub item: usize,
+    pub offset: usize,
+    pub start: usize,
+    pub end: usize,
+    pub members: usize,
+    pub reason: u32,
+    pub terms: u32,
 }
 
 unsafe extern "C" {
@@ -29,6 +44,7 @@ unsafe extern "C" {
         message: *mut u8,
         room: usize,
         needed: *mut usize,
+        fault: *mut Fault,
     ) -> u32;
 
     fn cfgx_predicates(
@@ -37,6 +53,7 @@ unsafe extern "C" {
         predicates: *mut Predicate,
         room: usize,
         needed: *mut usize,
+        fault: *mut Fault,
     ) -> u32;
 
     fn cfgx_answers(
@@ -50,6 +67,7 @@ unsafe extern "C" {
         answers: *mut u8,
         room: usize,
         needed: *mut usize,
+        fault: *mut Fault,
     ) -> u32;
 
     fn cfgx_decide(
@@ -61,6 +79,7 @@ unsafe extern "C" {
         room: usize,
         needed: *mut usize,
         value: *mut u8,
+        fault: *mut Fault,
     ) -> u32;
 
     fn cfgx_audit(
@@ -78,7 +97,7 @@ unsafe extern "C" {
         values: *mut u8,
         room: usize,
         needed: *mut usize,
-        place: *mut usize,
+        fault: *mut Fault,
     ) -> u32;
 }
 
@@ -91,7 +110,7 @@ const MEANINGS: [&str; 10] = [
     "not UTF-8",
     "miscounted answers",
     "bad ends",
-    "the steps of no condition",
+    "steps without a value",
     "too many values",
     "a faulty fact",
 ];
@@ -104,19 +123,19 @@ const FAULTY: u32 = 1;
 const NOT_UTF8: u32 = 4;
 const FAULTY_FACT: u32 = 9;
 
-/// A status other than that of a result, and the number of the text or the fact at fault, if an
-/// audit told it.
+/// A status other than that of a result, and the number of the text or the fact at fault, if the
+/// call has several.
 #[derive(Debug, PartialEq)]
 pub struct Failure {
     status: u32,
-    place: Option<usize>,
+    item: Option<usize>,
 }
 
 impl fmt::Display for Failure {
     fn fmt(&self, f: &mut fmt::Formatter<'_>) -> fmt::Result {
         f.write_str(MEANINGS[self.status as usize])?;
-        match self.place {
-            Some(place) => write!(f, ", number {place}"),
+        match self.item {
+            Some(item) => write!(f, ", number {item}"),
             None => Ok(()),
         }
     }
@@ -161,21 +180,21 @@ impl<T: AsRef<str>> FromIterator<T> for Texts {
 fn done(status: u32) -> Result<(), Failure> {
     match status {
         DONE => Ok(()),
-        status => Err(Failure { status, place: None }),
+        status => Err(Failure { status, item: None }),
     }
 }
 
-/// Returns the result of the status of an audit, which tells a place with some statuses.
-fn done_at(status: u32, place: usize) -> Result<(), Failure> {
+/// Returns the result of the status of a call with several texts or facts.
+fn done_with(status: u32, fault: Fault) -> Result<(), Failure> {
     match status {
-        FAULTY | NOT_UTF8 | FAULTY_FACT => Err(Failure { status, place: Some(place) }),
+        FAULTY | NOT_UTF8 | FAULTY_FACT => Err(Failure { status, item: Some(fault.item) }),
         status => done(status),
     }
 }
 
 /// Returns the text of a word of the command line.
 pub fn text_of(word: OsString) -> Result<String, Failure> {
-    word.into_string().map_err(|_| Failure { status: NOT_UTF8, place: None })
+    word.into_string().map_err(|_| Failure { status: NOT_UTF8, item: None })
 }
 
 /// Ends an example that had this result. An error that is no `Failure` is that of a write.
@@ -211,14 +230,16 @@ fn value_of(byte: u8) -> Value {
 }
 
 /// Calls with as much room as is needed. Returns the status and the items.
-fn filled<T: Clone + Default>(call: impl Fn(*mut T, usize, *mut usize) -> u32) -> (u32, Vec<T>) {
-    let (mut items, mut needed) = (Vec::new(), 0);
-    let status = call(items.as_mut_ptr(), 0, &mut needed);
+fn filled<T: Clone + Default>(
+    call: impl Fn(*mut T, usize, *mut usize, *mut Fault) -> u32,
+) -> (u32, Vec<T>) {
+    let (mut items, mut needed, mut fault) = (Vec::new(), 0, Fault::default());
+    let status = call(items.as_mut_ptr(), 0, &mut needed, &mut fault);
     if needed == 0 {
         return (status, items);
     }
     items.resize(needed, T::default());
-    (call(items.as_mut_ptr(), items.len(), &mut needed), items)
+    (call(items.as_mut_ptr(), items.len(), &mut needed, &mut fault), items)
 }
 
 // In each call a pointer and the length behind it are those of one slice, and no other pointer
@@ -226,8 +247,8 @@ fn filled<T: Clone + Default>(call: impl Fn(*mut T, usize, *mut usize) -> u32) -
 
 /// Returns what is wrong with a text, or nothing if it is a condition.
 pub fn explain(text: &str) -> Result<Option<String>, Failure> {
-    let (status, message) = filled(|buffer, room, needed| unsafe {
-        cfgx_explain(text.as_ptr(), text.len(), buffer, room, needed)
+    let (status, message) = filled(|buffer, room, needed, fault| unsafe {
+        cfgx_explain(text.as_ptr(), text.len(), buffer, room, needed, fault)
     });
     match status {
         FAULTY => Ok(Some(String::from_utf8_lossy(&message).into_owned())),
@@ -237,15 +258,15 @@ pub fn explain(text: &str) -> Result<Option<String>, Failure> {
 
 /// Returns the predicates of a condition, in the order in which they are asked.
 pub fn predicates(text: &str) -> Result<Vec<Predicate>, Failure> {
-    let (status, predicates) = filled(|buffer, room, needed| unsafe {
-        cfgx_predicates(text.as_ptr(), text.len(), buffer, room, needed)
+    let (status, predicates) = filled(|buffer, room, needed, fault| unsafe {
+        cfgx_predicates(text.as_ptr(), text.len(), buffer, room, needed, fault)
     });
     done(status).map(|()| predicates)
 }
 
 /// Returns what the facts answer to the predicates of a condition.
 pub fn answers(text: &str, facts: &Texts) -> Result<Vec<u8>, Failure> {
-    let (status, answers) = filled(|buffer, room, needed| unsafe {
+    let (status, answers) = filled(|buffer, room, needed, fault| unsafe {
         cfgx_answers(
             text.as_ptr(),
             text.len(),
@@ -257,6 +278,7 @@ pub fn answers(text: &str, facts: &Texts) -> Result<Vec<u8>, Failure> {
             buffer,
             room,
             needed,
+            fault,
         )
     });
     done(status).map(|()| answers)
@@ -264,7 +286,7 @@ pub fn answers(text: &str, facts: &Texts) -> Result<Vec<u8>, Failure> {
 
 /// Decides a condition by the answers to its predicates.
 pub fn decide(text: &str, answers: &[u8]) -> Result<Decision, Failure> {
-    let (mut value, mut needed) = (0, 0);
+    let (mut value, mut needed, mut fault) = (0, 0, Fault::default());
     let mut fillings = vec![0; 2 * answers.len()];
     done(unsafe {
         cfgx_decide(
@@ -276,6 +298,7 @@ pub fn decide(text: &str, answers: &[u8]) -> Result<Decision, Failure> {
             fillings.len(),
             &mut needed,
             &mut value,
+            &mut fault,
         )
     })?;
     Ok(match value_of(value) {
@@ -295,7 +318,7 @@ pub fn audit(
     facts: &Texts,
     target_ends: &[usize],
 ) -> Result<Vec<Vec<Value>>, Failure> {
-    let (mut needed, mut place) = (0, 0);
+    let (mut needed, mut fault) = (0, Fault::default());
     let (rows, columns) = (conditions.ends.len(), target_ends.len());
     let mut values = vec![0; rows.checked_mul(columns).expect("a table that fits in memory")];
     let status = unsafe {
@@ -314,10 +337,10 @@ pub fn audit(
             values.as_mut_ptr(),
             values.len(),
             &mut needed,
-            &mut place,
+            &mut fault,
         )
     };
-    done_at(status, place)?;
+    done_with(status, fault)?;
     let values: Vec<Value> = values.into_iter().map(value_of).collect();
     Ok((0..rows).map(|row| values[row * columns..(row + 1) * columns].to_vec()).collect())
 }

@@ -30,11 +30,11 @@ static uint32_t answer(const char *text, char **fact, size_t count, struct answe
         memcpy(facts + ends[i] - size, fact[i], size);
     }
     uint32_t status = cfgx_answers(text, strlen(text), facts, length, ends, count,
-                                   CFGX_VALUE_FALSE, NULL, 0, &answers->count);
+                                   CFGX_VALUE_FALSE, NULL, 0, &answers->count, NULL);
     answers->bytes = new_block(answers->count, 1);
     if (status == CFGX_STATUS_DONE) {
         status = cfgx_answers(text, strlen(text), facts, length, ends, count, CFGX_VALUE_FALSE,
-                              answers->bytes, answers->count, &answers->count);
+                              answers->bytes, answers->count, &answers->count, NULL);
     }
     free(ends);
     free(facts);
@@ -58,7 +58,8 @@ static uint32_t decide(const char *text, struct answers *answers)
     size_t needed;
     answers->fillings = new_block(answers->count, 2);
     uint32_t status = cfgx_decide(text, strlen(text), answers->bytes, answers->count,
-                                  answers->fillings, 2 * answers->count, &needed, &value);
+                                  answers->fillings, 2 * answers->count, &needed, &value,
+                                  NULL);
     if (status == CFGX_STATUS_DONE) {
         printf("%s\n", values[value]);
     }

@@ -48,10 +48,10 @@ static void print_predicate(const char *text, const struct cfgx_predicate *predi
 static uint32_t print_predicates(const char *text, size_t length)
 {
     size_t count;
-    uint32_t status = cfgx_predicates(text, length, NULL, 0, &count);
+    uint32_t status = cfgx_predicates(text, length, NULL, 0, &count, NULL);
     struct cfgx_predicate *predicates = new_block(count, sizeof *predicates);
     if (status == CFGX_STATUS_DONE) {
-        status = cfgx_predicates(text, length, predicates, count, &count);
+        status = cfgx_predicates(text, length, predicates, count, &count, NULL);
     }
     /* With every other status `count` is 0. */
     for (size_t i = 0; i < count; i++) {
@@ -65,10 +65,10 @@ static uint32_t print_predicates(const char *text, size_t length)
 static uint32_t print_fault(const char *text, size_t length)
 {
     size_t needed;
-    uint32_t status = cfgx_explain(text, length, NULL, 0, &needed);
+    uint32_t status = cfgx_explain(text, length, NULL, 0, &needed, NULL);
     char *message = new_block(needed, 1);
     if (status == CFGX_STATUS_FAULTY) {
-        status = cfgx_explain(text, length, message, needed, &needed);
+        status = cfgx_explain(text, length, message, needed, &needed, NULL);
     }
     if (status == CFGX_STATUS_FAULTY) {
         fwrite(message, 1, needed, stderr);

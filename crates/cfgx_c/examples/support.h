@@ -39,7 +39,7 @@ static inline const char *meaning(uint32_t status)
 {
     static const char *const meanings[] = {
         "done", "a faulty text", "wrong use", "out of memory", "not UTF-8", "miscounted answers",
-        "bad ends", "the steps of no condition", "too many values", "a faulty fact",
+        "bad ends", "steps without a value", "too many values", "a faulty fact",
     };
     return meanings[status];
 }

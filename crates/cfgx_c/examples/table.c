@@ -80,12 +80,12 @@ static void print_table(const struct list *conditions, const uint8_t *value, siz
 }
 
 /* Prints a status, and which text or fact it is about. */
-static void print_failure(uint32_t status, size_t place)
+static void print_failure(uint32_t status, const struct cfgx_fault *fault)
 {
-    /* With every other status the call writes no place. */
+    /* Every other status is about none. */
     if (status == CFGX_STATUS_FAULTY || status == CFGX_STATUS_NOT_UTF8
         || status == CFGX_STATUS_FAULTY_FACT) {
-        fprintf(stderr, "%s, number %zu\n", meaning(status), place);
+        fprintf(stderr, "%s, number %zu\n", meaning(status), fault->item);
     } else {
         report(status);
     }
@@ -107,15 +107,16 @@ int main(int count, char **word)
     }
     /* The block is refused if the product does not fit in a size_t. */
     uint8_t *found = new_block(conditions.count, targets);
-    size_t needed, place = 0, room = conditions.count * targets;
+    struct cfgx_fault fault;
+    size_t needed, room = conditions.count * targets;
     uint32_t status = cfgx_audit(conditions.bytes, conditions.length, conditions.ends,
                                  conditions.count, facts.bytes, facts.length, facts.ends,
                                  facts.count, target_ends, targets, CFGX_VALUE_UNKNOWN, found,
-                                 room, &needed, &place);
+                                 room, &needed, &fault);
     if (status == CFGX_STATUS_DONE) {
         print_table(&conditions, found, targets);
     } else {
-        print_failure(status, place);
+        print_failure(status, &fault);
     }
     free_list(&conditions);
     free_list(&facts);

@@ -1,33 +1,49 @@
 /* The engine of cfgx for C and C++. A condition is a text such as `all(unix, feature = "x")`, whose
- * predicates are `unix` and `feature = "x"`. The calls check such texts, list their predicates, and
- * compute their values. In the repository of cfgx, docs/RULES.md has the rules of the language, and
- * docs/C.md says how to link the library and what is proved of it.
+ * predicates are `unix` and `feature = "x"`. The calls check such texts, list their tokens and
+ * predicates, and compute their values. In the repository of cfgx, docs/RULES.md has the rules of
+ * the language, and docs/C.md says how to link the library and what is proved of it. This header
+ * needs C99 or C++11.
  *
  * Texts are UTF-8. Lengths, ends and spans count bytes. No byte is a terminator, so a text may
- * contain zero bytes. A condition has them only in its values. If a text begins with `cfg(` and
- * ends with `)`, the stripped text is what stands between; otherwise it is the whole text.
+ * contain zero bytes. A condition has them only in its values. White space of Unicode, a line feed
+ * too, may stand around each token. A value has no escapes: it ends at the next quote. Nesting has
+ * no limit. Some conditions that rustc takes are faulty here, such as `target_os` without a value.
+ *
+ * If a text begins with `cfg(` and ends with `)`, the stripped text is what stands between;
+ * otherwise it is the whole text. So pass `cfg(unix)` without white space around it: `cfg(unix) `
+ * is faulty.
  *
  * A pointer before a length or a count points to that many items. A null pointer is allowed where
- * its count is 0. In a language that does not read this header, pass any pointer that is not null.
- * Every other pointer points to one item, and is not null.
+ * its count is 0. Every other pointer points to one item. It is not null, unless it is a `fault`.
+ * In a language that does not read this header, pass no null pointer at all, since the functions at
+ * its end are what allows them.
  *
  * A list of texts is passed as the bytes of all texts, one after another with nothing between
  * them, and an array of their ends: `ends[i]` is the number of bytes of the first i + 1 texts. An
- * empty list has no ends, and its length is 0.
+ * empty list has no ends, and its length is 0. If an end cuts a character, the text in which the
+ * character begins is not UTF-8.
  *
  * A buffer has a length `room`, in items, and a `*needed`. A call always writes `*needed`: the
  * number of items of the result, or 0 if there is no result. If `room` is at least `*needed`, the
  * result stands at the start of the buffer, and the items behind it stay as they were. Otherwise
  * the whole buffer stays as it was. A call with two buffers fills both or neither. Too little room
- * changes neither the status nor another result, so compare `*needed` with `room`. Such a call does
- * all the work too, so pass a buffer at once if you know how many items there are.
+ * changes neither the status nor another result, so compare `*needed` with `room`: CFGX_STATUS_DONE
+ * does not say that the buffer was filled. Such a call does all the work too, so pass a buffer that
+ * has room for most conditions, and call again for others. A condition has no more steps than
+ * bytes, and a step for each predicate.
+ *
+ * A call always writes `*value`, `*needed` and `*fault`. Unless it says otherwise, `*value` becomes
+ * CFGX_VALUE_UNKNOWN, `*needed` becomes 0, and each member of `*fault` becomes 0. If the status is
+ * CFGX_STATUS_FAULTY, CFGX_STATUS_NOT_UTF8 or CFGX_STATUS_FAULTY_FACT, a call with a `fault` writes
+ * to it which text or fact this is about, and what is wrong with it.
  *
  * If several statuses apply, a call returns the first of these: CFGX_STATUS_BAD_ENDS;
- * CFGX_STATUS_TOO_LARGE; CFGX_STATUS_NOT_UTF8 or CFGX_STATUS_FAULTY, for the first text that is not
- * UTF-8 or no condition; CFGX_STATUS_FAULTY_FACT; CFGX_STATUS_NO_VALUE; CFGX_STATUS_MISCOUNTED. The
- * order of `cfgx_run` is: CFGX_STATUS_BAD_ENDS; CFGX_STATUS_NOT_UTF8, for any word;
- * CFGX_STATUS_WRONG_USE; CFGX_STATUS_FAULTY. A call may return CFGX_STATUS_OUT_OF_MEMORY in place
- * of every status but CFGX_STATUS_BAD_ENDS and CFGX_STATUS_TOO_LARGE.
+ * CFGX_STATUS_TOO_LARGE; CFGX_STATUS_FAULTY_FACT, for a fact that is not UTF-8, and then for one
+ * that is faulty; CFGX_STATUS_NOT_UTF8, for any text; CFGX_STATUS_FAULTY; CFGX_STATUS_NO_VALUE;
+ * CFGX_STATUS_MISCOUNTED. The order of `cfgx_run` is: CFGX_STATUS_BAD_ENDS; CFGX_STATUS_NOT_UTF8,
+ * for any word; CFGX_STATUS_WRONG_USE; CFGX_STATUS_FAULTY. A call may return
+ * CFGX_STATUS_OUT_OF_MEMORY in place of every status but CFGX_STATUS_BAD_ENDS and
+ * CFGX_STATUS_TOO_LARGE. But for that, the same arguments always have the same status.
  *
  * A call keeps no pointer and no memory. It takes memory from malloc and realloc, and returns it
  * to free. Several threads may call at once. Nothing checks these duties of a caller:
@@ -48,10 +64,17 @@
 extern "C" {
 #endif
 
+/* Lets gcc and clang warn where what a call returns is not used. */
+#ifdef __GNUC__
+#define CFGX_USE_RESULT __attribute__((warn_unused_result))
+#else
+#define CFGX_USE_RESULT
+#endif
+
 /* The version of the language of conditions, and that of these calls. */
 #define CFGX_VERSION_LANGUAGE 2
 #define CFGX_VERSION_MAJOR 2
-#define CFGX_VERSION_MINOR 0
+#define CFGX_VERSION_MINOR 1
 #define CFGX_VERSION \
     (CFGX_VERSION_LANGUAGE * 1000000 + CFGX_VERSION_MAJOR * 1000 + CFGX_VERSION_MINOR)
 
@@ -81,6 +104,7 @@ uint32_t cfgx_version(void);
 #define CFGX_VALUE_UNKNOWN 2
 
 /* The reasons of faults. docs/RULES.md says which reason a text has. */
+#define CFGX_REASON_NONE 0                      /* no fault, or bytes that are not UTF-8 */
 #define CFGX_REASON_INVALID_NOT 1               /* a `not` has no member, or several */
 #define CFGX_REASON_INVALID_CHARACTERS 2        /* no text has this reason */
 #define CFGX_REASON_UNCLOSED_PARENS 3           /* a `(` is never closed */
@@ -116,13 +140,18 @@ uint32_t cfgx_version(void);
                                       * `target_env` `target_endian` `target_has_atomic`
                                       * `target_pointer_width` `target_vendor` */
 
-/* What is wrong with a text, and where. */
+/* What is wrong with a text or a fact, and where. */
 struct cfgx_fault {
-    /* where the stripped text begins in the text: at 4 if the text is in cfg( ), else at 0 */
+    /* the number of the text among those of the call, or of the fact among all facts, from 0 on */
+    size_t item;
+    /* where the stripped text begins: at 4 if the text is in cfg( ), else at 0. A `?` at the start
+     * of a fact is one byte more. It is 0 for bytes that are not UTF-8 */
     size_t offset;
     /* the bytes at fault, from `start` up to but not including `end` in the stripped text, so from
-     * `offset + start` up to but not including `offset + end` in the text. There may be none, they
-     * may stand at the end of the text, and they may be the first byte of a longer character */
+     * `offset + start` up to but not including `offset + end` in the text or the fact. `start` is
+     * `end` if no byte is at fault, as in an empty text. Where no token can start, one byte is at
+     * fault, also of a longer character. If the text or the fact is not UTF-8, this is the byte
+     * with which the first wrong character begins */
     size_t start;
     size_t end;
     /* the number of members of the `not`, for CFGX_REASON_INVALID_NOT; 0 for every other reason */
@@ -133,20 +162,22 @@ struct cfgx_fault {
     uint32_t terms;
 };
 
-/* Checks whether a text is a condition. Returns CFGX_STATUS_DONE if it is. Returns
- * CFGX_STATUS_FAULTY if it is UTF-8 but no condition, and writes its first fault to `*fault`.
- * Otherwise returns CFGX_STATUS_NOT_UTF8 or CFGX_STATUS_OUT_OF_MEMORY. With every status but
- * CFGX_STATUS_FAULTY, `*fault` stays as it was. */
+/* Checks whether a text is a condition. Returns CFGX_STATUS_DONE if it is, and otherwise
+ * CFGX_STATUS_FAULTY, CFGX_STATUS_NOT_UTF8 or CFGX_STATUS_OUT_OF_MEMORY. */
+CFGX_USE_RESULT
 uint32_t cfgx_check(const char *text, size_t text_length, struct cfgx_fault *fault);
 
 /* Explains what is wrong with a text. Returns CFGX_STATUS_DONE if the text is a condition. Returns
  * CFGX_STATUS_FAULTY if it is UTF-8 but no condition, and fills `message` with what cfgx prints:
- * the stripped text, a line feed, a space for each byte before the first fault, marks, and the
- * reason. The message ends with neither a line feed nor a zero byte, but has the zero bytes of the
+ * the stripped text, a line feed, a space for each byte before the fault, marks, a space and the
+ * reason. The marks are one `-` if a parenthesis or a quote is never closed, and otherwise a `^`
+ * for each byte at fault. They stand below it if each character before it has one byte and one
+ * column. The message ends with neither a line feed nor a zero byte, but has the zero bytes of the
  * text. Otherwise returns CFGX_STATUS_NOT_UTF8 or CFGX_STATUS_OUT_OF_MEMORY. With every status but
  * CFGX_STATUS_FAULTY, `*needed` is 0. */
+CFGX_USE_RESULT
 uint32_t cfgx_explain(const char *text, size_t text_length,
-                      char *message, size_t room, size_t *needed);
+                      char *message, size_t room, size_t *needed, struct cfgx_fault *fault);
 
 /* The kinds of predicates. */
 #define CFGX_PREDICATE_FLAG 1             /* a bare key without a meaning of its own */
@@ -182,6 +213,10 @@ struct cfgx_predicate {
      * CFGX_PREDICATE_ENDIAN: the number of a byte order
      * every other kind: 0 */
     uint32_t number;
+    /* the span of the whole predicate: from the start of its key to the end of its key, or to the
+     * end of the closing quote if it has a value */
+    size_t start;
+    size_t end;
     /* the span of the key, if the kind is CFGX_PREDICATE_FLAG or CFGX_PREDICATE_KEY_VALUE; else 0
      * and 0 */
     size_t key_start;
@@ -197,8 +232,10 @@ struct cfgx_predicate {
  * b, a and c. A predicate that stands twice is listed twice. The literals `true` and `false` are
  * neither asked nor listed. Returns CFGX_STATUS_DONE, CFGX_STATUS_FAULTY, CFGX_STATUS_NOT_UTF8 or
  * CFGX_STATUS_OUT_OF_MEMORY. */
+CFGX_USE_RESULT
 uint32_t cfgx_predicates(const char *text, size_t text_length,
-                         struct cfgx_predicate *predicates, size_t room, size_t *needed);
+                         struct cfgx_predicate *predicates, size_t room, size_t *needed,
+                         struct cfgx_fault *fault);
 
 /* Computes the value of a condition from the answers to its predicates, which are in the order of
  * `cfgx_predicates`. `all` is false if a member is false, else unknown if a member is unknown, else
@@ -206,19 +243,22 @@ uint32_t cfgx_predicates(const char *text, size_t text_length,
  * of unknown is unknown. Two answers are independent, even those to equal predicates: with unknown
  * answers `any(a, not(a))` is unknown. Returns CFGX_STATUS_DONE, and writes the value to `*value`.
  * Otherwise returns CFGX_STATUS_FAULTY, CFGX_STATUS_NOT_UTF8, CFGX_STATUS_OUT_OF_MEMORY or
- * CFGX_STATUS_MISCOUNTED, and `*value` stays as it was. */
+ * CFGX_STATUS_MISCOUNTED. */
+CFGX_USE_RESULT
 uint32_t cfgx_value(const char *text, size_t text_length,
-                    const uint8_t *answers, size_t answer_count, uint8_t *value);
+                    const uint8_t *answers, size_t answer_count, uint8_t *value,
+                    struct cfgx_fault *fault);
 
 /* Decides a condition: computes its value as `cfgx_value` does and, if the value is unknown, fills
  * `fillings` with two fillings, one behind the other. A filling has CFGX_VALUE_FALSE or
  * CFGX_VALUE_TRUE for each answer, and keeps the known answers; it may give equal predicates
  * different values. The condition is true with the first filling and false with the second one. So
- * `*needed` is 2 * answer_count, or 0 if the value is known. Returns what `cfgx_value` returns.
- * With every status but CFGX_STATUS_DONE, `*value` stays as it was. */
+ * `*needed` is 2 * answer_count, or 0 if the value is known. Returns what `cfgx_value` returns. */
+CFGX_USE_RESULT
 uint32_t cfgx_decide(const char *text, size_t text_length,
                      const uint8_t *answers, size_t answer_count,
-                     uint8_t *fillings, size_t room, size_t *needed, uint8_t *value);
+                     uint8_t *fillings, size_t room, size_t *needed, uint8_t *value,
+                     struct cfgx_fault *fault);
 
 /* Answers the predicates of a condition by the facts of a target: one answer for each predicate, in
  * the order of `cfgx_predicates`. A fact is a text such as a line of `rustc --print cfg`. The
@@ -229,18 +269,19 @@ uint32_t cfgx_decide(const char *text, size_t text_length,
  * its kind is less than CFGX_PREDICATE_ABI, which says that it does not test the target. Otherwise
  * it is false.
  *
- * Some compilers print facts that no condition can ask. These are passed over. To find out
- * whether a fact is one of them, take off a `?` at its start and strip the rest. A key alone is
- * passed over if it needs a value, as `feature`, `panic` and each key that begins with `target_`
- * do. A key with a value is passed over if it begins with `target_` and is unknown. Every other
- * fact that is no condition is faulty, such as a blank one.
+ * Some compilers print facts that no condition can ask, which are passed over. Without a `?` at its
+ * start, and stripped, such a fact is a key alone that needs a value, as `feature`, `panic` and
+ * each key that begins with `target_` do; or it is a key that begins with `target_` and is not the
+ * key of a kind above, with a value. Every other fact that is no condition is faulty. A blank line
+ * is, too.
  *
- * Returns CFGX_STATUS_DONE; CFGX_STATUS_FAULTY or CFGX_STATUS_NOT_UTF8, which are about the text;
- * CFGX_STATUS_FAULTY_FACT; CFGX_STATUS_OUT_OF_MEMORY; or CFGX_STATUS_BAD_ENDS. */
+ * Returns CFGX_STATUS_DONE; CFGX_STATUS_FAULTY_FACT; CFGX_STATUS_NOT_UTF8 or CFGX_STATUS_FAULTY,
+ * which are about the text; CFGX_STATUS_OUT_OF_MEMORY; or CFGX_STATUS_BAD_ENDS. */
+CFGX_USE_RESULT
 uint32_t cfgx_answers(const char *text, size_t text_length,
                       const char *facts, size_t facts_length,
                       const size_t *fact_ends, size_t fact_count, uint8_t otherwise,
-                      uint8_t *answers, size_t room, size_t *needed);
+                      uint8_t *answers, size_t room, size_t *needed, struct cfgx_fault *fault);
 
 /* The kinds of steps. */
 #define CFGX_STEP_FALSE 0 /* pushes false */
@@ -264,41 +305,82 @@ struct cfgx_step {
  * from which the value that was pushed last is popped first. The answers are in the order of
  * `predicates`. `all`: acc = true; for each popped value v, acc = acc and v; acc is pushed. `any`:
  * the same with false and or. At the end the stack has one value, which is that of the condition.
- * The stack never has more values than there are steps.
+ * The stack never has more values than there are steps, and there are no more steps than bytes.
  *
  * Both buffers are filled, or neither. Returns CFGX_STATUS_DONE, CFGX_STATUS_FAULTY,
  * CFGX_STATUS_NOT_UTF8 or CFGX_STATUS_OUT_OF_MEMORY. */
+CFGX_USE_RESULT
 uint32_t cfgx_compile(const char *text, size_t text_length,
                       struct cfgx_step *steps, size_t step_room, size_t *steps_needed,
                       struct cfgx_predicate *predicates, size_t predicate_room,
-                      size_t *predicates_needed);
+                      size_t *predicates_needed, struct cfgx_fault *fault);
 
 /* Computes the value of steps over answers, with a stack as `cfgx_compile` describes it. Any steps
  * may be passed, such as those of a damaged file. Returns CFGX_STATUS_DONE, and writes the value to
  * `*value`. Returns CFGX_STATUS_NO_VALUE if a step pops more values than there are, not exactly one
  * value is left at the end, a kind is unknown, or a count is not what `cfgx_step` says. Returns
- * CFGX_STATUS_MISCOUNTED if the steps have a value over more or fewer answers, or
- * CFGX_STATUS_OUT_OF_MEMORY, which up to 33 steps and 33 answers never do. With every status but
- * CFGX_STATUS_DONE, `*value` stays as it was. */
+ * CFGX_STATUS_MISCOUNTED if the steps have a value over more or fewer answers. Otherwise returns
+ * CFGX_STATUS_OUT_OF_MEMORY. Up to 33 steps and 33 answers need no memory. */
+CFGX_USE_RESULT
 uint32_t cfgx_apply(const struct cfgx_step *steps, size_t step_count,
                     const uint8_t *answers, size_t answer_count, uint8_t *value);
 
-/* Evaluates many conditions on many targets. Numbering starts at 0. Target j has the facts from
- * number `target_ends[j - 1]`, or from 0 for the first target, up to but not including
- * `target_ends[j]`, and answers by them as in `cfgx_answers`. Item `i * target_count + j` of
- * `values` becomes the value of condition i on target j, so `*needed` is text_count * target_count.
+/* Evaluates many conditions on many targets. Reads each text and each fact once. There are no
+ * values if one of them is faulty, so leave faulty texts out, which `cfgx_check` finds.
  *
- * Returns CFGX_STATUS_DONE. Returns CFGX_STATUS_FAULTY or CFGX_STATUS_NOT_UTF8, and writes the
- * number of the first such text to `*place`. Returns CFGX_STATUS_FAULTY_FACT, and writes the number
- * of the first such fact, counted over all targets, to `*place`. Otherwise returns
- * CFGX_STATUS_OUT_OF_MEMORY, CFGX_STATUS_BAD_ENDS or CFGX_STATUS_TOO_LARGE. With every other
- * status, `*place` stays as it was. */
+ * Numbering starts at 0. Target j has the facts from number `target_ends[j - 1]`, or from 0 for the
+ * first target, up to but not including `target_ends[j]`, and answers by them as in
+ * `cfgx_answers`. Item `i * target_count + j` of `values` becomes the value of condition i on
+ * target j, so `*needed` is text_count * target_count.
+ *
+ * Returns CFGX_STATUS_DONE. Returns CFGX_STATUS_FAULTY_FACT, and tells the fault of the first fact
+ * that is not UTF-8, or if all are, of the first faulty one. Facts are counted over all targets.
+ * Returns CFGX_STATUS_NOT_UTF8 or CFGX_STATUS_FAULTY, and tells the fault of the first such text.
+ * Otherwise returns CFGX_STATUS_OUT_OF_MEMORY, CFGX_STATUS_BAD_ENDS or CFGX_STATUS_TOO_LARGE. */
+CFGX_USE_RESULT
 uint32_t cfgx_audit(const char *texts, size_t texts_length,
                     const size_t *text_ends, size_t text_count,
                     const char *facts, size_t facts_length,
                     const size_t *fact_ends, size_t fact_count,
                     const size_t *target_ends, size_t target_count, uint8_t otherwise,
-                    uint8_t *values, size_t room, size_t *needed, size_t *place);
+                    uint8_t *values, size_t room, size_t *needed, struct cfgx_fault *fault);
+
+/* The kinds of tokens. */
+#define CFGX_TOKEN_KEY 1         /* any word but all, any and not */
+#define CFGX_TOKEN_VALUE 2       /* a text between two quotes */
+#define CFGX_TOKEN_EQUALS 3      /* = */
+#define CFGX_TOKEN_ALL 4         /* all */
+#define CFGX_TOKEN_ANY 5         /* any */
+#define CFGX_TOKEN_NOT 6         /* not */
+#define CFGX_TOKEN_OPEN_PAREN 7  /* ( */
+#define CFGX_TOKEN_CLOSE_PAREN 8 /* ) */
+#define CFGX_TOKEN_COMMA 9       /* , */
+
+/* A token of a text. The padding behind `kind` may hold anything, so compare and store the
+ * members. */
+struct cfgx_token {
+    /* one of CFGX_TOKEN_.. */
+    uint32_t kind;
+    /* the bytes that spell the token, with both quotes of a value: from `start` up to but not
+     * including `end` in the text as it was passed */
+    size_t start;
+    size_t end;
+};
+
+/* Lists the tokens of the stripped text, one after another. The text need not be a condition: most
+ * texts that `cfgx_check` refuses have all their tokens here, and an empty text has none. White
+ * space stands between tokens and belongs to none. Writes to `*offset` where the stripped text
+ * begins: at 4 if the text is in cfg( ), else at 0.
+ *
+ * Returns CFGX_STATUS_DONE if nothing but white space stands behind the last token. Returns
+ * CFGX_STATUS_FAULTY at the first character with which no token can start, or at a quote that is
+ * never closed. Then the result is the tokens before it, and `fault` tells this fault, before which
+ * `cfgx_check` may find another one. Otherwise returns CFGX_STATUS_NOT_UTF8, with which `*offset`
+ * is 0, or CFGX_STATUS_OUT_OF_MEMORY. */
+CFGX_USE_RESULT
+uint32_t cfgx_tokens(const char *text, size_t text_length,
+                     struct cfgx_token *tokens, size_t room, size_t *needed, size_t *offset,
+                     struct cfgx_fault *fault);
 
 /* Runs the program cfgx with these words, which are the arguments after the program's name. `input`
  * is its standard input. Only `pick` reads it. An input that is not UTF-8, or has more than 16 MiB,
@@ -308,15 +390,17 @@ uint32_t cfgx_audit(const char *texts, size_t texts_length,
  *
  * Returns CFGX_STATUS_BAD_ENDS if the ends are wrong, else CFGX_STATUS_NOT_UTF8 if a word is not
  * UTF-8, for which cfgx itself ends with 3. With both of these there is no output. */
+CFGX_USE_RESULT
 uint32_t cfgx_run(const char *words, size_t words_length,
                   const size_t *word_ends, size_t word_count,
                   const char *input, size_t input_length,
                   char *output, size_t room, size_t *needed);
 
-/* What follows allows a null pointer where its count is 0. The name of each call but `cfgx_version`
- * becomes that of a static function here. It passes on what it is passed, with a pointer to some
- * item in place of such a null pointer. A null pointer with another count stays null. In C, a
- * function that is inline and not static cannot call a static function. */
+/* What follows allows a null pointer where its count is 0, and as a `fault`. The name of each call
+ * but `cfgx_version` becomes that of a static function here. It passes on what it is passed, with a
+ * pointer to some item in place of such a null pointer. A null pointer with another count stays
+ * null. In C, a function of yours that is inline and not static cannot call a static function: make
+ * it `static inline`. */
 
 static inline const char *cfgx_given_text(const char *text, size_t count) {
     static const char none = 0;
@@ -360,60 +444,89 @@ static inline struct cfgx_step *cfgx_room_for_steps(struct cfgx_step *steps, siz
     return steps == NULL && count == 0 ? &none : steps;
 }
 
+static inline struct cfgx_token *cfgx_room_for_tokens(struct cfgx_token *tokens, size_t count) {
+    static struct cfgx_token none;
+    return tokens == NULL && count == 0 ? &none : tokens;
+}
+
+CFGX_USE_RESULT
 static inline uint32_t cfgx_check_or_none(const char *text, size_t text_length,
                                           struct cfgx_fault *fault) {
-    return cfgx_check(cfgx_given_text(text, text_length), text_length, fault);
+    struct cfgx_fault untold;
+    return cfgx_check(cfgx_given_text(text, text_length), text_length,
+                      fault == NULL ? &untold : fault);
 }
 
+CFGX_USE_RESULT
 static inline uint32_t cfgx_explain_or_none(const char *text, size_t text_length, char *message,
-                                            size_t room, size_t *needed) {
+                                            size_t room, size_t *needed,
+                                            struct cfgx_fault *fault) {
+    struct cfgx_fault untold;
     return cfgx_explain(cfgx_given_text(text, text_length), text_length,
-                        cfgx_room_for_text(message, room), room, needed);
+                        cfgx_room_for_text(message, room), room, needed,
+                        fault == NULL ? &untold : fault);
 }
 
+CFGX_USE_RESULT
 static inline uint32_t cfgx_predicates_or_none(const char *text, size_t text_length,
                                                struct cfgx_predicate *predicates, size_t room,
-                                               size_t *needed) {
+                                               size_t *needed, struct cfgx_fault *fault) {
+    struct cfgx_fault untold;
     return cfgx_predicates(cfgx_given_text(text, text_length), text_length,
-                           cfgx_room_for_predicates(predicates, room), room, needed);
+                           cfgx_room_for_predicates(predicates, room), room, needed,
+                           fault == NULL ? &untold : fault);
 }
 
+CFGX_USE_RESULT
 static inline uint32_t cfgx_value_or_none(const char *text, size_t text_length,
                                           const uint8_t *answers, size_t answer_count,
-                                          uint8_t *value) {
+                                          uint8_t *value, struct cfgx_fault *fault) {
+    struct cfgx_fault untold;
     return cfgx_value(cfgx_given_text(text, text_length), text_length,
-                      cfgx_given_answers(answers, answer_count), answer_count, value);
+                      cfgx_given_answers(answers, answer_count), answer_count, value,
+                      fault == NULL ? &untold : fault);
 }
 
+CFGX_USE_RESULT
 static inline uint32_t cfgx_decide_or_none(const char *text, size_t text_length,
                                            const uint8_t *answers, size_t answer_count,
                                            uint8_t *fillings, size_t room, size_t *needed,
-                                           uint8_t *value) {
+                                           uint8_t *value, struct cfgx_fault *fault) {
+    struct cfgx_fault untold;
     return cfgx_decide(cfgx_given_text(text, text_length), text_length,
                        cfgx_given_answers(answers, answer_count), answer_count,
-                       cfgx_room_for_values(fillings, room), room, needed, value);
+                       cfgx_room_for_values(fillings, room), room, needed, value,
+                       fault == NULL ? &untold : fault);
 }
 
+CFGX_USE_RESULT
 static inline uint32_t cfgx_answers_or_none(const char *text, size_t text_length, const char *facts,
                                             size_t facts_length, const size_t *fact_ends,
                                             size_t fact_count, uint8_t otherwise, uint8_t *answers,
-                                            size_t room, size_t *needed) {
+                                            size_t room, size_t *needed,
+                                            struct cfgx_fault *fault) {
+    struct cfgx_fault untold;
     return cfgx_answers(cfgx_given_text(text, text_length), text_length,
                         cfgx_given_text(facts, facts_length), facts_length,
                         cfgx_given_ends(fact_ends, fact_count), fact_count, otherwise,
-                        cfgx_room_for_values(answers, room), room, needed);
+                        cfgx_room_for_values(answers, room), room, needed,
+                        fault == NULL ? &untold : fault);
 }
 
+CFGX_USE_RESULT
 static inline uint32_t cfgx_compile_or_none(const char *text, size_t text_length,
                                             struct cfgx_step *steps, size_t step_room,
                                             size_t *steps_needed, struct cfgx_predicate *predicates,
-                                            size_t predicate_room, size_t *predicates_needed) {
+                                            size_t predicate_room, size_t *predicates_needed,
+                                            struct cfgx_fault *fault) {
+    struct cfgx_fault untold;
     return cfgx_compile(cfgx_given_text(text, text_length), text_length,
                         cfgx_room_for_steps(steps, step_room), step_room, steps_needed,
                         cfgx_room_for_predicates(predicates, predicate_room), predicate_room,
-                        predicates_needed);
+                        predicates_needed, fault == NULL ? &untold : fault);
 }
 
+CFGX_USE_RESULT
 static inline uint32_t cfgx_apply_or_none(const struct cfgx_step *steps, size_t step_count,
                                           const uint8_t *answers, size_t answer_count,
                                           uint8_t *value) {
@@ -421,21 +534,35 @@ static inline uint32_t cfgx_apply_or_none(const struct cfgx_step *steps, size_t 
                       cfgx_given_answers(answers, answer_count), answer_count, value);
 }
 
+CFGX_USE_RESULT
 static inline uint32_t cfgx_audit_or_none(const char *texts, size_t texts_length,
                                           const size_t *text_ends, size_t text_count,
                                           const char *facts, size_t facts_length,
                                           const size_t *fact_ends, size_t fact_count,
                                           const size_t *target_ends, size_t target_count,
                                           uint8_t otherwise, uint8_t *values, size_t room,
-                                          size_t *needed, size_t *place) {
+                                          size_t *needed, struct cfgx_fault *fault) {
+    struct cfgx_fault untold;
     return cfgx_audit(cfgx_given_text(texts, texts_length), texts_length,
                       cfgx_given_ends(text_ends, text_count), text_count,
                       cfgx_given_text(facts, facts_length), facts_length,
                       cfgx_given_ends(fact_ends, fact_count), fact_count,
                       cfgx_given_ends(target_ends, target_count), target_count, otherwise,
-                      cfgx_room_for_values(values, room), room, needed, place);
+                      cfgx_room_for_values(values, room), room, needed,
+                      fault == NULL ? &untold : fault);
 }
 
+CFGX_USE_RESULT
+static inline uint32_t cfgx_tokens_or_none(const char *text, size_t text_length,
+                                           struct cfgx_token *tokens, size_t room, size_t *needed,
+                                           size_t *offset, struct cfgx_fault *fault) {
+    struct cfgx_fault untold;
+    return cfgx_tokens(cfgx_given_text(text, text_length), text_length,
+                       cfgx_room_for_tokens(tokens, room), room, needed, offset,
+                       fault == NULL ? &untold : fault);
+}
+
+CFGX_USE_RESULT
 static inline uint32_t cfgx_run_or_none(const char *words, size_t words_length,
                                         const size_t *word_ends, size_t word_count,
                                         const char *input, size_t input_length, char *output,
@@ -455,6 +582,7 @@ static inline uint32_t cfgx_run_or_none(const char *words, size_t words_length,
 #define cfgx_compile cfgx_compile_or_none
 #define cfgx_apply cfgx_apply_or_none
 #define cfgx_audit cfgx_audit_or_none
+#define cfgx_tokens cfgx_tokens_or_none
 #define cfgx_run cfgx_run_or_none
 
 #ifdef __cplusplus

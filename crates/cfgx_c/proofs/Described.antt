@@ -12,8 +12,8 @@ use Rattle.cfgx_parser.specs.Kinds.{kind_number}
 use Rattle.cfgx_parser.specs.declared.nodes.Span.{Span}
 use Rattle.cfg_expr.specs.Located.{AreLocated, CanBeCut, Locates}
 use Rattle.cfg_expr.specs.declared.expr.located.LocatedPredicate.{LocatedPredicate}
-use Rattle.cfgx_c.specs.Predicates.{Describes, HasSpans, IsSpanOf, ListsPredicates, c_predicate}
-use Rattle.cfgx_c.specs.Predicates.{moved}
+use Rattle.cfgx_c.specs.Predicates.{Describes, IsSpanOf, ListsPredicates, c_predicate}
+use Rattle.cfgx_c.specs.Predicates.{moved_or_none}
 
 -- a part of a part
 part_of_part : (n offset start end : ℕ) (text : List ℕ) → start ≤ end
@@ -34,17 +34,25 @@ part_of_part n offset start end text ordered within =
     ∙ ap (λ k. take k (drop (offset + start) text)) same
     ∙ ap (λ k. take (end + offset - (start + offset)) (drop k text)) place
 
+-- a part of the stripped text
+pub part_of_stripped : (text : List ℕ) (start end : ℕ) → start ≤ end → end ≤ length (strip text)
+    → slice_range (strip text) start end
+    ≡ slice_range text (start + strip_offset text) (end + strip_offset text)
+part_of_stripped text start end ordered inside =
+    let (is, within) = strip-stands text in
+    ap (λ kept. slice_range kept start end) is ∙ part_of_part _ (strip_offset text) start end text
+    ordered (omega (arith, inside, ap length is))
+
 module _ (text : List ℕ) where
   moved-span : (span : Option Span) → CanBeCut (strip text) span
-      → let there = moved (strip_offset text) span in
+      → let there = moved_or_none (strip_offset text) span in
       IsSpanOf text (option_map (at (strip text)) span) there.start there.end
   moved-span None cut = (refl, refl)
   moved-span (Some span) cut =
       let (is, within) = strip-stands text in (
         omega (arith, cut.ordered),
         omega (arith, cut.inside, within),
-        sym (ap (λ kept. at kept span) is ∙ part_of_part _ (strip_offset text) span.start span.end
-            text cut.ordered (omega (arith, cut.inside, ap length is))),
+        sym (part_of_stripped text span.start span.end cut.ordered cut.inside),
       )
 
 Describes-moved : (text : List ℕ) (question : Question) (p : LocatedPredicate)
@@ -72,10 +80,3 @@ ListsPredicates-located text located are = record {
   each = described_each text _ located are.each;
   in_place = (located, are, refl);
 }
-
-pub first_located : (text : List ℕ) (questions : List Question) (p : LocatedPredicate)
-    (rest : List LocatedPredicate) → AllZip (Locates text) questions (p ∷ rest)
-    → HasSpans text p × (others : List Question) × AllZip (Locates text) others rest
-first_located text (question ∷ others) p rest (is, are) =
-    ((is.key.cut, is.value.cut), others, are)
-first_located text [] p rest are = absurd are

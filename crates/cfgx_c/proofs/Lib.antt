@@ -1,5 +1,9 @@
 pub mod AnswerLemmas
+pub mod BufferLemmas
 pub mod CSteps
 pub mod Described
 pub mod EndsLemmas
-pub mod InputLemmas
+pub mod RefusalLemmas
+pub mod SpanLemmas
+pub mod TokenLemmas
+pub mod Utf8Lemmas

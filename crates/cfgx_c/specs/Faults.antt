@@ -1,51 +1,95 @@
 -- What is wrong with texts and facts.
 -- Source: include/cfgx.h.
-use Rattle.std.specs.Prelude.{◌≡◌, ◌≢◌, ℕ, List, Some, Err, slice_get, take}
+use Rattle.std.specs.Prelude.{◌≡◌, ◌≢◌, ◌⊎◌, ◌+◌, ℕ, List, Some, Err, if◌then◌else◌, is_some}
+use Rattle.std.specs.Prelude.{slice_get, take}
 use Rattle.std.specs.List.{All}
-use Rattle.std.specs.Str.{IsUtf8}
-use Rattle.cfgx_syntax.specs.Stripping.{strip}
-use Rattle.cfgx_syntax.specs.Error.{Fault}
+use Rattle.std.specs.Str.{IsUtf8, IsValidUpTo}
+use Rattle.cfgx_syntax.specs.Stripping.{strip, strip_offset}
+use Rattle.cfgx_syntax.specs.Error.{Fault, cause_members, cause_number}
+use Rattle.cfgx_syntax.specs.Terms.{terms_number}
 use Rattle.cfgx_grammar.specs.Answer.{HasOneTree, ReadsAs}
-use Rattle.cfgx_engine.specs.Facts.{IsRustcFact}
-use Rattle.cfgx_c.specs.Status.{faulty, not_utf8}
+use Rattle.cfgx_engine.specs.Facts.{IsRustcFact, fact_text, unknown_text}
+use Rattle.cfgx_c.specs.Status.{faulty, faulty_fact, not_utf8}
+use Rattle.cfgx_c.specs.declared.fault.CfgxFault.{CfgxFault}
+
+-- each member is 0
+abbrev pub no_fault : CfgxFault
+no_fault = record {
+  item = 0;
+  offset = 0;
+  start = 0;
+  end = 0;
+  members = 0;
+  reason = 0;
+  terms = 0;
+}
+
+-- the fault of the item with this number, of which the byte at `start` is the first that is no
+-- UTF-8
+abbrev pub utf8_fault : ℕ → ℕ → CfgxFault
+utf8_fault item start = record no_fault { item = item; start = start; end = start + 1 }
+
+-- the fault of the item with this number as C sees it; `offset` bytes stand before the stripped
+-- text
+abbrev pub c_fault : ℕ → ℕ → Fault → CfgxFault
+c_fault item offset fault = record {
+  item = item;
+  offset = offset;
+  start = fault.start;
+  end = fault.end;
+  members = cause_members fault.cause;
+  reason = cause_number fault.cause;
+  terms = terms_number fault.cause;
+}
+
+-- how many bytes of a fact stand before its stripped text
+abbrev pub fact_offset : List ℕ → ℕ
+fact_offset fact = if is_some (unknown_text fact) then strip_offset (fact_text fact) + 1
+    else strip_offset fact
+
+-- the text is not UTF-8, and the fault has its first byte that is none
+abbrev pub HasNoUtf8 : List ℕ → CfgxFault → Type 0
+HasNoUtf8 text fault = (start : ℕ) × IsValidUpTo text start
+    × (fault ≡ utf8_fault fault.item start)
+
+-- the text has this fault
+abbrev pub HasFault : List ℕ → CfgxFault → Type 0
+HasFault text fault = (found : Fault) × ReadsAs (strip text) (Err found)
+    × (fault ≡ c_fault fault.item (strip_offset text) found)
+
+-- the fact is neither read nor passed over, and has this fault
+abbrev pub HasFactFault : List ℕ → CfgxFault → Type 0
+HasFactFault fact fault = ¬ IsRustcFact fact × (found : Fault)
+    × ReadsAs (strip (fact_text fact)) (Err found)
+    × (fault ≡ c_fault fault.item (fact_offset fact) found)
 
 -- a text that is a condition
 abbrev pub IsCondition : List ℕ → Type 0
 IsCondition text = IsUtf8 text × HasOneTree (strip text)
 
--- a text in UTF-8 that is no condition
-abbrev pub IsFaulty : List ℕ → Type 0
-IsFaulty text = IsUtf8 text × (fault : Fault) × ReadsAs (strip text) (Err fault)
-
--- the status of a call says whether the text is UTF-8
-abbrev pub TellsUtf8 : List ℕ → ℕ → Type 0
-TellsUtf8 text status =
-    (status ≡ not_utf8 → ¬ IsUtf8 text) × (status ≢ not_utf8 → IsUtf8 text)
-
--- the status of a call says that the text is faulty, that it is not UTF-8, or that it is UTF-8
-abbrev pub TellsOf : List ℕ → ℕ → Type 0
-TellsOf text status = (status ≡ faulty → IsFaulty text) × TellsUtf8 text status
-
 -- a fact that is read, or passed over
 abbrev pub IsFact : List ℕ → Type 0
 IsFact fact = IsUtf8 fact × IsRustcFact fact
 
--- The item with this number, from 0 on, is the first that is not good, and it is bad.
-pub record IsFirstBad (Good Bad : List ℕ → Type 0) (items : List (List ℕ)) (number : ℕ)
-    : Type 0 where
+-- The item with this number, from 0 on, is the first that is not good, and has this fault.
+pub record IsFirst (Good : List ℕ → Type 0) (Has : List ℕ → CfgxFault → Type 0)
+    (items : List (List ℕ)) (number : ℕ) (fault : CfgxFault) : Type 0 where
   pub item : List ℕ
   pub stands : slice_get items number ≡ Some item
   pub before : All Good (take number items)
-  pub bad : Bad item
+  pub has : Has item fault
 
--- this is the number of the first text that is no condition, which is faulty
-abbrev pub IsFirstFaulty : List (List ℕ) → ℕ → Type 0
-IsFirstFaulty texts number = IsFirstBad IsCondition IsFaulty texts number
+-- the fault of the first fact that is not UTF-8; or all are UTF-8, and that of the first faulty one
+abbrev pub IsFirstOfFacts : List (List ℕ) → CfgxFault → Type 0
+IsFirstOfFacts facts fault = IsFirst IsUtf8 HasNoUtf8 facts fault.item fault
+    ⊎ (All IsUtf8 facts × IsFirst IsRustcFact HasFactFault facts fault.item fault)
 
--- this is the number of the first text that is no condition, which is not UTF-8
-abbrev pub IsFirstNotUtf8 : List (List ℕ) → ℕ → Type 0
-IsFirstNotUtf8 texts number = IsFirstBad IsCondition (λ text. ¬ IsUtf8 text) texts number
-
--- this is the number of the first faulty fact
-abbrev pub IsFirstFaultyFact : List (List ℕ) → ℕ → Type 0
-IsFirstFaultyFact facts number = IsFirstBad IsFact (λ fact. ¬ IsFact fact) facts number
+-- What a status and a fault say of the facts and the texts of a call. All facts come before all
+-- texts. With a status that is about none of them there is no fault.
+pub record Tells (facts texts : List (List ℕ)) (status : ℕ) (fault : CfgxFault) : Type 0 where
+  pub of_fact : status ≡ faulty_fact → IsFirstOfFacts facts fault
+  pub of_bytes : status ≡ not_utf8
+      → All IsFact facts × IsFirst IsUtf8 HasNoUtf8 texts fault.item fault
+  pub of_text : status ≡ faulty → All IsFact facts × All IsUtf8 texts
+      × IsFirst (λ text. HasOneTree (strip text)) HasFault texts fault.item fault
+  pub none : status ≢ faulty_fact → status ≢ not_utf8 → status ≢ faulty → fault ≡ no_fault

@@ -1,7 +1,6 @@
 pub mod Answers
 pub mod Audit
 pub mod Buffer
-pub mod Check
 pub mod Decide
 pub mod Ends
 pub mod Faults
@@ -9,6 +8,7 @@ pub mod Predicates
 pub mod Run
 pub mod Status
 pub mod Steps
+pub mod Tokens
 pub mod Value
 pub mod Version
 pub mod internal

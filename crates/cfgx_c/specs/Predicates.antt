@@ -9,7 +9,7 @@ use Rattle.cfgx_grammar.specs.Question.{Question}
 use Rattle.cfgx_grammar.specs.Tree.{asked}
 use Rattle.cfgx_parser.specs.Kinds.{kind_number, kind_of}
 use Rattle.cfgx_parser.specs.declared.nodes.Span.{Span}
-use Rattle.cfg_expr.specs.Located.{AreLocated, CanBeCut, key_text, number_of, value_text}
+use Rattle.cfg_expr.specs.Located.{AreLocated, key_text, number_of, value_text}
 use Rattle.cfg_expr.specs.declared.expr.located.LocatedPredicate.{LocatedPredicate}
 use Rattle.cfgx_c.specs.declared.predicates.CfgxPredicate.{CfgxPredicate}
 
@@ -27,25 +27,27 @@ pub record Describes (text : List ℕ) (question : Question) (predicate : CfgxPr
     pub key : IsSpanOf text (key_text question) predicate.key_start predicate.key_end
     pub value : IsSpanOf text (value_text question) predicate.value_start predicate.value_end
 
--- the span with `offset` more bytes before it; without a span, that from 0 to 0
-abbrev pub moved : ℕ → Option Span → Span
-moved offset None = record { start = 0; end = 0 }
-moved offset (Some span) = record { start = span.start + offset; end = span.end + offset }
+-- the span with `offset` more bytes before it
+abbrev pub moved : ℕ → Span → Span
+moved offset span = record { start = span.start + offset; end = span.end + offset }
+
+-- the same, or that from 0 to 0 if there is no span
+abbrev pub moved_or_none : ℕ → Option Span → Span
+moved_or_none offset None = record { start = 0; end = 0 }
+moved_or_none offset (Some span) = moved offset span
 
 -- the predicate as C sees it; `offset` bytes were stripped before the text
 abbrev pub c_predicate : ℕ → LocatedPredicate → CfgxPredicate
 c_predicate offset predicate = record {
   kind = kind_number predicate.kind;
   number = predicate.number;
-  key_start = (moved offset predicate.key).start;
-  key_end = (moved offset predicate.key).end;
-  value_start = (moved offset predicate.value).start;
-  value_end = (moved offset predicate.value).end;
+  start = (moved offset predicate.span).start;
+  end = (moved offset predicate.span).end;
+  key_start = (moved_or_none offset predicate.key).start;
+  key_end = (moved_or_none offset predicate.key).end;
+  value_start = (moved_or_none offset predicate.value).start;
+  value_end = (moved_or_none offset predicate.value).end;
 }
-
--- the text can be cut at both ends of each span of the predicate
-abbrev pub HasSpans : List ℕ → LocatedPredicate → Type 0
-HasSpans text predicate = CanBeCut text predicate.key × CanBeCut text predicate.value
 
 -- the predicates have the spans of those of the stripped text, moved by what was stripped
 abbrev pub AreInPlace : List ℕ → List CfgxPredicate → Type 0

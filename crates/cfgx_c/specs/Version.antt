@@ -12,7 +12,7 @@ abbrev pub major : ℕ
 major = 2
 
 abbrev pub minor : ℕ
-minor = 0
+minor = 1
 
 -- the three as one number
 abbrev pub version : ℕ

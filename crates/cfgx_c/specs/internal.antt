@@ -1,3 +1,5 @@
 -- The contracts of private functions cite these definitions. No public contract does.
 pub mod Applying
-pub mod Reading
+pub mod Lexing
+pub mod Refusals
+pub mod Spans

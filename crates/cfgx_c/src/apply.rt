@@ -40,7 +40,7 @@ fn eval_c_steps(
 /// Returns the status `DONE`, and writes the value to `value`: 0 for false, 1 for true, 2 for
 /// unknown. Returns `NO_VALUE` if the steps have no value over any answers, `MISCOUNTED` if they
 /// have one over more or fewer answers, and `OUT_OF_MEMORY` if memory was refused, which happens
-/// only for more than 33 steps or answers. Unless the status is `DONE`, `value` is unchanged.
+/// only for more than 33 steps or answers. Unless the status is `DONE`, `value` becomes 2.
 #[unsafe(no_mangle)]
 pub extern "C" fn cfgx_apply(
     alloc: Global,
@@ -52,10 +52,11 @@ pub extern "C" fn cfgx_apply(
     ensures no_value { result ≡ no_value → HaveNoCValue steps.now }
     ensures miscounted { result ≡ miscounted → AreCMiscounted steps.now answers.now }
     ensures short { length steps.now ≤ 33 → length answers.now ≤ 33 → result ≢ out_of_memory }
-    ensures kept { result ≢ done → value.new ≡ value.old }
+    ensures unknown { result ≢ done → value.new ≡ byte_of_value None }
     ensures status { (result ≡ done) ⊎ ((result ≡ no_value) ⊎ ((result ≡ miscounted)
         ⊎ (result ≡ out_of_memory))) }
 {
+    *value = byte_of_value(None);
     match eval_c_steps(alloc, steps, answers) {
         Ok(found) => {
             *value = byte_of_value(found);

@@ -1,80 +1,52 @@
 //! The values of many conditions on many targets.
 
-ghost use Rattle.std.specs.Prelude.{◌≡◌, ◌≢◌, ◌↔◌, ◌≤◌, ◌*◌, ◌^◌, IfErr, IfOk, length, map};
+ghost use Rattle.std.specs.Prelude.{◌≡◌, ◌≢◌, ◌↔◌, ◌≤◌, ◌*◌, ◌^◌, IfErr, IfOk, length};
 ghost use Rattle.std.specs.List.{All};
-ghost use Rattle.cfgx_syntax.specs.Stripping.{strip};
-ghost use Rattle.cfgx_engine.specs.Audits.{AreValues};
-ghost use Rattle.cfgx_engine.specs.Facts.{IsAnswer};
-ghost use Rattle.cfgx_c.specs.Faults.{IsCondition, IsFact, IsFirstFaulty, IsFirstFaultyFact};
-ghost use Rattle.cfgx_c.specs.Faults.{IsFirstNotUtf8};
 ghost use Rattle.cfgx_c.specs.Audit.{AreAllEnds, FillsValues, ValuesBy};
 ghost use Rattle.cfgx_c.specs.Ends.{parts};
-ghost use Rattle.cfgx_c.specs.internal.Reading.{FailsFor, FailsForTexts, views};
-ghost use Rattle.cfgx_c.specs.Status.{bad_ends, done, faulty, faulty_fact, miscounted, no_value};
-ghost use Rattle.cfgx_c.specs.Status.{not_utf8, too_large, wrong_use};
+ghost use Rattle.cfgx_c.specs.Faults.{IsCondition, IsFact, Tells};
+ghost use Rattle.cfgx_c.specs.Status.{bad_ends, done, faulty_fact, miscounted, no_value, too_large};
+ghost use Rattle.cfgx_c.specs.Status.{wrong_use};
+ghost use Rattle.cfgx_c.specs.internal.Refusals.{Refuses};
 
-use crate::answers::{fill_values, otherwise_of};
-use crate::ends::{are_ends, parts, utf8_front};
-use crate::reading::{ReadError, read_targets, text_error};
-use crate::status::{BAD_ENDS, DONE, TOO_LARGE};
-use cfgx_engine::resolve::{Facts, Otherwise, audit_facts};
+use crate::answers::otherwise_of;
+use crate::bytes::fill_values;
+use crate::ends::{are_ends, texts};
+use crate::fault::{CfgxFault, Refusal};
+use crate::reading::{read_targets, text_refusal};
+use crate::status::{BAD_ENDS, DONE, FAULTY_FACT, NOT_UTF8, TOO_LARGE};
+use cfgx_engine::resolve::{Otherwise, audit_facts};
 use std::alloc::Global;
 
-/// Reads each text once, and returns the values of the texts on the targets.
+/// Reads the facts and then the texts, and returns the values of the texts on the targets. Target
+/// `j` has the facts up to `target_ends[j]`.
 ///
-/// The error is what is wrong with the texts.
-fn audit_texts(
-    alloc: Global,
-    texts: &[&[u8]],
-    targets: &[Facts],
-    otherwise: Otherwise,
-) -> Result<Vec<Option<bool>>, ReadError>
-    ensures ok { IfOk result (λ values. All IsCondition (views texts.now)
-        × AreValues (λ facts. IsAnswer facts otherwise) (map strip (views texts.now)) targets.now
-        values.items) }
-    ensures err { IfErr result (FailsForTexts (views texts.now)) }
-{
-    let front = utf8_front(alloc, texts)?;
-    let values = match audit_facts(alloc, front.as_slice(), targets, otherwise) {
-        Ok(values) => values,
-        Err(error) => return Err(text_error(error.index, error.failure)),
-    };
-    if front.len() < texts.len() {
-        return Err(ReadError::NotUtf8(front.len()));
-    }
-    Ok(values)
-}
-
-/// Returns the values of the texts on the targets. Target `j` has the facts up to `target_ends[j]`.
-///
-/// The error is what is wrong with the texts, or else with the facts.
+/// The error is about the facts, or else about the texts, or memory was refused.
 fn find_values(
     alloc: Global,
-    texts: &[u8],
-    text_ends: &[usize],
+    conditions: &[u8],
+    condition_ends: &[usize],
     facts: &[u8],
     fact_ends: &[usize],
     target_ends: &[usize],
     otherwise: Otherwise,
-) -> Result<Vec<Option<bool>>, ReadError>
-    requires { AreAllEnds texts.now text_ends.now facts.now fact_ends.now target_ends.now }
-    ensures ok { IfOk result (λ values. All IsCondition (parts text_ends.now texts.now)
-        × All IsFact (parts fact_ends.now facts.now)
-        × ValuesBy (parts text_ends.now texts.now)
+) -> Result<Vec<Option<bool>>, Refusal>
+    requires { AreAllEnds conditions.now condition_ends.now facts.now fact_ends.now
+        target_ends.now }
+    ensures ok { IfOk result (λ values. All IsFact (parts fact_ends.now facts.now)
+        × All IsCondition (parts condition_ends.now conditions.now)
+        × ValuesBy (parts condition_ends.now conditions.now)
         (parts target_ends.now (parts fact_ends.now facts.now)) otherwise values.items) }
-    ensures err { IfErr result (FailsFor (parts text_ends.now texts.now)
-        (parts fact_ends.now facts.now)) }
+    ensures err { IfErr result (Refuses (parts fact_ends.now facts.now)
+        (parts condition_ends.now conditions.now)) }
 {
-    let texts = parts(alloc, texts, text_ends)?;
-    let facts = parts(alloc, facts, fact_ends)?;
-    match read_targets(alloc, facts.as_slice(), target_ends) {
-        Ok(targets) => audit_texts(alloc, texts.as_slice(), targets.as_slice(), otherwise),
-        Err(ReadError::Memory) => Err(ReadError::Memory),
-        Err(error) => {
-            // A faulty text comes first. Without targets the texts are only checked.
-            audit_texts(alloc, texts.as_slice(), &[], otherwise)?;
-            Err(error)
-        }
+    let facts = texts(alloc, facts, fact_ends, FAULTY_FACT)?;
+    let targets = read_targets(alloc, facts.as_slice(), target_ends)?;
+    let conditions = texts(alloc, conditions, condition_ends, NOT_UTF8)?;
+    let conditions = conditions.as_slice();
+    match audit_facts(alloc, conditions, targets.as_slice(), otherwise) {
+        Ok(values) => Ok(values),
+        Err(error) => Err(text_refusal(error.index, conditions[error.index], error.failure)),
     }
 }
 
@@ -87,12 +59,14 @@ fn find_values(
 ///
 /// - `BAD_ENDS`: an end is less than the one before it, or the last one is not the number of items.
 /// - `TOO_LARGE`: the number of values does not fit in a `usize`.
-/// - `NOT_UTF8` or `FAULTY`: a text is no condition. `place` becomes the number of the first one.
-/// - `FAULTY_FACT`: a fact is faulty or not UTF-8. `place` becomes the number of the first one.
+/// - `FAULTY_FACT`: a fact is not UTF-8; or all are, and one is faulty.
+/// - `NOT_UTF8`: a text is not UTF-8.
+/// - `FAULTY`: a text has a fault.
 ///
-/// Returns `OUT_OF_MEMORY` if memory was refused, unless the ends are bad or the number of values
-/// is too large. Unless the status is `DONE`, `needed` becomes 0 and `values` is unchanged. Unless
-/// it is `NOT_UTF8`, `FAULTY` or `FAULTY_FACT`, `place` is unchanged.
+/// With the last three `fault` becomes what is wrong with the first one. Returns `OUT_OF_MEMORY` if
+/// memory was refused, unless the ends are bad or the number of values is too large. Unless the
+/// status is `DONE`, `needed` becomes 0 and `values` is unchanged. With every other status each
+/// member of `fault` becomes 0.
 #[unsafe(no_mangle)]
 pub extern "C" fn cfgx_audit(
     alloc: Global,
@@ -104,31 +78,26 @@ pub extern "C" fn cfgx_audit(
     otherwise: u8,
     values: &mut [u8],
     needed: &mut usize,
-    place: &mut usize,
+    fault: &mut CfgxFault,
 ) -> u32
-    ensures done { result ≡ done → All IsCondition (parts text_ends.now texts.now)
-        × All IsFact (parts fact_ends.now facts.now)
+    ensures done { result ≡ done → All IsFact (parts fact_ends.now facts.now)
+        × All IsCondition (parts text_ends.now texts.now)
         × FillsValues (parts text_ends.now texts.now)
         (parts target_ends.now (parts fact_ends.now facts.now)) otherwise values.old values.new
         needed.new }
-    ensures faulty { result ≡ faulty → IsFirstFaulty (parts text_ends.now texts.now) place.new }
-    ensures not_utf8 { result ≡ not_utf8
-        → IsFirstNotUtf8 (parts text_ends.now texts.now) place.new }
-    ensures faulty_fact { result ≡ faulty_fact
-        → All IsCondition (parts text_ends.now texts.now)
-        × IsFirstFaultyFact (parts fact_ends.now facts.now) place.new }
+    ensures read { Tells (parts fact_ends.now facts.now) (parts text_ends.now texts.now) result
+        fault.new }
     ensures bad_ends { (result ≡ bad_ends)
         ↔ ¬ AreAllEnds texts.now text_ends.now facts.now fact_ends.now target_ends.now }
     ensures too_large { (result ≡ too_large)
         ↔ (AreAllEnds texts.now text_ends.now facts.now fact_ends.now target_ends.now
         × (2 ^ 64 ≤ length text_ends.now * length target_ends.now)) }
     ensures kept { result ≢ done → (values.new ≡ values.old) × (needed.new ≡ 0) }
-    ensures place { result ≢ faulty → result ≢ not_utf8 → result ≢ faulty_fact
-        → place.new ≡ place.old }
     ensures status { (result ≤ faulty_fact) × (result ≢ wrong_use) × (result ≢ miscounted)
         × (result ≢ no_value) }
 {
     *needed = 0;
+    *fault = CfgxFault::default();
     if !are_ends(text_ends, texts.len())
         || !are_ends(fact_ends, facts.len())
         || !are_ends(target_ends, fact_ends.len())
@@ -151,6 +120,6 @@ pub extern "C" fn cfgx_audit(
             *needed = fill_values(values, found.as_slice());
             DONE
         }
-        Err(error) => error.report(place),
+        Err(refusal) => refusal.report(fault),
     }
 }

@@ -1,10 +1,11 @@
 //! Answers and values as bytes.
 
-ghost use Rattle.std.specs.Prelude.{◌≡◌, ◌<◌, IfOk, OnErr, length, map};
+ghost use Rattle.std.specs.Prelude.{◌≡◌, ◌<◌, ◌≤◌, ◌++◌, IfOk, OnErr, drop, length, map};
 ghost use Rattle.cfgx_grammar.specs.Answer.{HasOneTree};
 ghost use Rattle.cfg_expr.specs.Filling.{three_valued};
 ghost use Rattle.cfg_expr.specs.Fold.{tree_fold};
 ghost use Rattle.cfg_expr.specs.Given.{AreAnswersTo};
+ghost use Rattle.cfgx_c.specs.Buffer.{Fills};
 ghost use Rattle.cfgx_c.specs.Value.{answer_of, byte_of_value};
 
 use cfg_expr::expr::Condition;
@@ -63,4 +64,26 @@ pub(crate) fn eval_over_bytes(
         × (value ≡ tree_fold three_valued one.tree (map answer_of answers.now))) }
 {
     condition.eval_over(alloc, answers.iter().map(|byte| answer_of(*byte)))
+}
+
+/// Writes the bytes of `values` to the start of `buffer` if they all fit; otherwise `buffer` stays
+/// as it was. Returns their number.
+pub(crate) fn fill_values(buffer: &mut [u8], values: &[Option<bool>]) -> usize
+    ensures { Fills (map byte_of_value values.now) buffer.old buffer.new result }
+{
+    let needed = values.len();
+    if needed <= buffer.len() {
+        write_values(buffer, values);
+    }
+    needed
+}
+
+/// Writes the bytes of `values` to the start of `buffer`.
+fn write_values(buffer: &mut [u8], values: &[Option<bool>])
+    requires { length values.now ≤ length buffer.old }
+    ensures { buffer.new ≡ map byte_of_value values.now ++ drop (length values.now) buffer.old }
+{
+    for i in 0..values.len() {
+        buffer[i] = byte_of_value(values[i]);
+    }
 }

@@ -1,29 +1,46 @@
 //! The steps and the predicates of a condition.
 
-ghost use Rattle.std.specs.Prelude.{◌≡◌, ◌≢◌, ◌≤◌, IfOk, map};
-ghost use Rattle.cfgx_grammar.specs.Answer.{HasOneTree};
-ghost use Rattle.cfg_expr.specs.Steps.{steps_of};
-ghost use Rattle.cfgx_c.specs.Faults.{TellsOf};
+ghost use Rattle.std.specs.Prelude.{◌≡◌, ◌≢◌, ◌≤◌, [], ◌∷◌, IfErr, IfOk, OnErr};
+ghost use Rattle.std.specs.Str.{IsUtf8};
+ghost use Rattle.cfgx_c.specs.Faults.{Tells};
 ghost use Rattle.cfgx_c.specs.Status.{done, not_utf8, wrong_use};
-ghost use Rattle.cfgx_c.specs.Steps.{Compiles, c_step};
+ghost use Rattle.cfgx_c.specs.Steps.{Compiles};
+ghost use Rattle.cfgx_c.specs.internal.Refusals.{RefusesText};
 
-use crate::buffer::fill_both;
-use crate::predicates::{CfgxPredicate, predicates_of};
-use crate::reading::read_condition;
-use crate::status::{DONE, NOT_UTF8, OUT_OF_MEMORY};
-use crate::steps::{CfgxStep, c_steps};
-use cfg_expr::expr::{Condition, ConditionReader};
-use std::alloc::{AllocError, Global};
+use crate::fault::{CfgxFault, Refusal};
+use crate::predicates::{CfgxPredicate, write_predicates};
+use crate::reading::{read_condition, read_text};
+use crate::status::DONE;
+use crate::steps::CfgxStep;
+use cfg_expr::expr::ConditionReader;
+use std::alloc::Global;
 
-/// Returns the steps of a condition as C sees them.
+/// Reads a condition, and fills both buffers if both have room. Returns the number of steps and
+/// that of predicates.
 ///
-/// The error is that `alloc` refused memory.
-fn compiled(alloc: Global, condition: &Condition<'_>) -> Result<Vec<CfgxStep>, AllocError>
-    ensures { IfOk result (λ list. (one : HasOneTree condition.now)
-        × (list.items ≡ map c_step (steps_of one.tree))) }
+/// The error is about the text, or memory was refused.
+fn compile(
+    alloc: Global,
+    text: &[u8],
+    steps: &mut [CfgxStep],
+    predicates: &mut [CfgxPredicate],
+) -> Result<(usize, usize), Refusal>
+    ensures ok { IfOk result (λ needed. IsUtf8 text.now × Compiles text.now steps.old steps.new
+        needed.0 predicates.old predicates.new needed.1) }
+    ensures err { IfErr result (RefusesText text.now) }
+    ensures kept { OnErr result ((steps.new ≡ steps.old) × (predicates.new ≡ predicates.old)) }
 {
-    let steps = condition.steps(alloc)?;
-    c_steps(alloc, steps.as_slice())
+    let text = read_text(text)?;
+    let mut reader = ConditionReader::new(alloc);
+    let condition = read_condition(&mut reader, text)?;
+    let located = condition.located_predicates();
+    let (step_count, count) = (condition.step_count(), located.left());
+    if step_count > steps.len() || count > predicates.len() {
+        return Ok((step_count, count));
+    }
+    condition.write_steps(alloc, &mut steps[..step_count])?;
+    write_predicates(text, located, predicates);
+    Ok((step_count, count))
 }
 
 /// Compiles a condition to steps and its predicates, so that a program can evaluate it with a
@@ -33,6 +50,7 @@ fn compiled(alloc: Global, condition: &Condition<'_>) -> Result<Vec<CfgxStep>, A
 /// little room, and writes their numbers to `steps_needed` and `predicates_needed`. Returns
 /// `FAULTY` if the text has a fault, `NOT_UTF8` if it is not UTF-8, and `OUT_OF_MEMORY` if memory
 /// was refused. Unless the status is `DONE`, both numbers become 0, and both buffers are unchanged.
+/// `fault` becomes what `cfgx_check` makes of it.
 #[unsafe(no_mangle)]
 pub extern "C" fn cfgx_compile(
     alloc: Global,
@@ -41,32 +59,25 @@ pub extern "C" fn cfgx_compile(
     steps_needed: &mut usize,
     predicates: &mut [CfgxPredicate],
     predicates_needed: &mut usize,
+    fault: &mut CfgxFault,
 ) -> u32
     ensures done { result ≡ done → Compiles text.now steps.old steps.new steps_needed.new
         predicates.old predicates.new predicates_needed.new }
-    ensures read { TellsOf text.now result }
+    ensures read { Tells [] (text.now ∷ []) result fault.new }
+    ensures utf8 { result ≢ not_utf8 → IsUtf8 text.now }
     ensures kept { result ≢ done → (steps.new ≡ steps.old) × (predicates.new ≡ predicates.old)
         × (steps_needed.new ≡ 0) × (predicates_needed.new ≡ 0) }
     ensures status { (result ≤ not_utf8) × (result ≢ wrong_use) }
 {
     *steps_needed = 0;
     *predicates_needed = 0;
-    let Ok(text) = str::from_utf8(text) else {
-        return NOT_UTF8;
-    };
-    let mut reader = ConditionReader::new(alloc);
-    let condition = match read_condition(&mut reader, text) {
-        Ok(condition) => condition,
-        Err(status) => return status,
-    };
-    let Ok(step_list) = compiled(alloc, &condition) else {
-        return OUT_OF_MEMORY;
-    };
-    let Ok(list) = predicates_of(alloc, text, &condition) else {
-        return OUT_OF_MEMORY;
-    };
-    *steps_needed = step_list.len();
-    *predicates_needed = list.len();
-    fill_both(steps, step_list.as_slice(), predicates, list.as_slice());
-    DONE
+    *fault = CfgxFault::default();
+    match compile(alloc, text, steps, predicates) {
+        Ok((step_count, count)) => {
+            *steps_needed = step_count;
+            *predicates_needed = count;
+            DONE
+        }
+        Err(refusal) => refusal.report(fault),
+    }
 }

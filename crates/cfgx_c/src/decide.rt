@@ -1,16 +1,18 @@
 //! The decision of a condition over answers.
 
-ghost use Rattle.std.specs.Prelude.{◌≡◌, ◌≢◌, ◌≤◌, ◌++◌, IfOk, OnOk, map};
+ghost use Rattle.std.specs.Prelude.{◌≡◌, ◌≢◌, ◌≤◌, ◌++◌, [], ◌∷◌, IfOk, drop, length, map};
+ghost use Rattle.std.specs.Str.{IsUtf8};
+ghost use Rattle.cfgx_c.specs.Buffer.{Fills};
 ghost use Rattle.cfgx_syntax.specs.Stripping.{strip};
 ghost use Rattle.cfg_expr.specs.Given.{AreAnswersTo};
 ghost use Rattle.cfg_expr.specs.Deciding.{Decides};
-ghost use Rattle.cfgx_c.specs.Faults.{TellsOf};
+ghost use Rattle.cfgx_c.specs.Faults.{Tells};
 ghost use Rattle.cfgx_c.specs.Decide.{DecidesOver, filling_bytes, fillings_in, value_in};
-ghost use Rattle.cfgx_c.specs.Status.{done, miscounted, wrong_use};
+ghost use Rattle.cfgx_c.specs.Status.{done, miscounted, not_utf8, wrong_use};
 ghost use Rattle.cfgx_c.specs.Value.{HasOtherCount, answer_of, byte_of_value};
 
-use crate::buffer::fill;
 use crate::bytes::{answers_of, byte_of_value};
+use crate::fault::CfgxFault;
 use crate::reading::read_answered;
 use crate::status::{DONE, OUT_OF_MEMORY};
 use cfg_expr::Decision;
@@ -27,31 +29,31 @@ fn value_in(decision: &Decision) -> Option<bool>
     }
 }
 
-/// Appends the truth values of `filling` to `bytes`, a byte for each.
-///
-/// The error is that memory was refused.
-fn push_filling(bytes: &mut Vec<u8>, filling: &[bool]) -> Result<(), AllocError>
-    ensures { OnOk result (bytes.new.items ≡ bytes.old.items ++ filling_bytes filling.now) }
+/// Writes the truth values of `filling` to the start of `buffer`, a byte for each.
+fn write_filling(buffer: &mut [u8], filling: &[bool])
+    requires { length filling.now ≤ length buffer.old }
+    ensures { buffer.new ≡ filling_bytes filling.now ++ drop (length filling.now) buffer.old }
 {
-    for truth in filling {
-        bytes.push(byte_of_value(Some(*truth)))?;
+    for i in 0..filling.len() {
+        buffer[i] = byte_of_value(Some(filling[i]));
     }
-    Ok(())
 }
 
-/// Returns the bytes of both fillings of a decision, one behind the other, or none if the value is
-/// known.
-///
-/// The error is that `alloc` refused memory.
-fn fillings_in(alloc: Global, decision: &Decision) -> Result<Vec<u8>, AllocError>
-    ensures { IfOk result (λ bytes. bytes.items ≡ fillings_in decision.now) }
+/// Fills `buffer` with both fillings of a decision, one behind the other. Returns their length,
+/// which is 0 if the value is known.
+fn fill_fillings(buffer: &mut [u8], decision: &Decision) -> usize
+    ensures { Fills (fillings_in decision.now) buffer.old buffer.new result }
 {
-    let mut bytes = Vec::new(alloc);
-    if let Decision::Unknown { if_true, if_false } = decision {
-        push_filling(&mut bytes, if_true.as_slice())?;
-        push_filling(&mut bytes, if_false.as_slice())?;
+    let Decision::Unknown { if_true, if_false } = decision else {
+        return 0;
+    };
+    let needed = if_true.len() + if_false.len();
+    if needed <= buffer.len() {
+        let (first, second) = buffer.split_at_mut(if_true.len());
+        write_filling(first, if_true.as_slice());
+        write_filling(second, if_false.as_slice());
     }
-    Ok(bytes)
+    needed
 }
 
 /// Decides a condition over `answers`, which are in the order of its predicates.
@@ -80,7 +82,8 @@ fn decide_over_bytes(
 /// `needed` becomes 0.
 ///
 /// Returns `FAULTY`, `NOT_UTF8`, `OUT_OF_MEMORY` and `MISCOUNTED` as `cfgx_value` does. With these
-/// `needed` becomes 0, and `fillings` and `value` stay as they were.
+/// `needed` becomes 0, `fillings` stays as it was, and `value` becomes 2. `fault` becomes what
+/// `cfgx_check` makes of it.
 #[unsafe(no_mangle)]
 pub extern "C" fn cfgx_decide(
     alloc: Global,
@@ -89,29 +92,30 @@ pub extern "C" fn cfgx_decide(
     fillings: &mut [u8],
     needed: &mut usize,
     value: &mut u8,
+    fault: &mut CfgxFault,
 ) -> u32
     ensures done { result ≡ done → DecidesOver (strip text.now) answers.now fillings.old
         fillings.new needed.new value.new }
     ensures counted { result ≡ done → AreAnswersTo answers.now (strip text.now) }
-    ensures read { TellsOf text.now result }
+    ensures read { Tells [] (text.now ∷ []) result fault.new }
+    ensures utf8 { result ≢ not_utf8 → IsUtf8 text.now }
     ensures miscounted { result ≡ miscounted → HasOtherCount (strip text.now) answers.now }
     ensures kept { result ≢ done → (fillings.new ≡ fillings.old) × (needed.new ≡ 0)
-        × (value.new ≡ value.old) }
+        × (value.new ≡ byte_of_value None) }
     ensures status { (result ≤ miscounted) × (result ≢ wrong_use) }
 {
     *needed = 0;
+    *value = byte_of_value(None);
+    *fault = CfgxFault::default();
     let mut reader = ConditionReader::new(alloc);
     let condition = match read_answered(&mut reader, text, answers) {
         Ok(condition) => condition,
-        Err(status) => return status,
+        Err(refusal) => return refusal.report(fault),
     };
     let Ok(decision) = decide_over_bytes(alloc, &condition, answers) else {
         return OUT_OF_MEMORY;
     };
-    let Ok(bytes) = fillings_in(alloc, &decision) else {
-        return OUT_OF_MEMORY;
-    };
-    *needed = fill(fillings, bytes.as_slice());
+    *needed = fill_fillings(fillings, &decision);
     *value = byte_of_value(value_in(&decision));
     DONE
 }

@@ -1,11 +1,14 @@
 //! Texts that are passed as their bytes and their ends.
 
-ghost use Rattle.std.specs.Prelude.{◌≡◌, ◌↔◌, All, IfOk, IsTrue, MatchOption, length};
+ghost use Rattle.std.specs.Prelude.{◌≡◌, ◌↔◌, All, IfErr, IfOk, IsTrue, length, take};
 ghost use Rattle.std.specs.Str.{IsUtf8};
+ghost use Rattle.std.specs.Str.Lossy.{utf8_valid_len};
 ghost use Rattle.cfgx_c.specs.Ends.{AreEnds, parts};
-ghost use Rattle.cfgx_c.specs.internal.Reading.{IsUtf8Front, views};
+ghost use Rattle.cfgx_c.specs.Faults.{HasNoUtf8};
+ghost use Rattle.cfgx_c.specs.internal.Refusals.{IsAbout, IsThatOfFirst, views};
 
-use std::alloc::{AllocError, Global};
+use crate::fault::{CfgxFault, Refusal};
+use std::alloc::Global;
 
 /// Whether these are the ends of parts that make up `len` items.
 pub(crate) fn are_ends(ends: &[usize], len: usize) -> bool
@@ -21,59 +24,46 @@ pub(crate) fn are_ends(ends: &[usize], len: usize) -> bool
     begin == len
 }
 
-/// Returns the parts of `bytes` with these ends.
-///
-/// The error is that `alloc` refused memory.
-pub(crate) fn parts<'a>(
-    alloc: Global,
-    bytes: &'a [u8],
-    ends: &[usize],
-) -> Result<Vec<&'a [u8]>, AllocError>
-    requires { AreEnds ends.now (length bytes.now) }
-    ensures { IfOk result (λ found. views found.items ≡ parts ends.now bytes.now) }
+/// Returns the longest text at the front of `bytes`.
+fn utf8_front(bytes: &[u8]) -> &str
+    ensures front { result.now ≡ take (utf8_valid_len bytes.now) bytes.now }
+    ensures utf8 { IsUtf8 result.now }
 {
-    let mut parts = Vec::with_capacity(alloc, ends.len())?;
-    let mut begin = 0;
-    for &end in ends {
-        parts.push(&bytes[begin..end])?;
-        begin = end;
+    match bytes.utf8_chunks().next() {
+        Some(chunk) => chunk.valid(),
+        None => "",
     }
-    Ok(parts)
 }
 
-/// Returns the texts before the first one that is not UTF-8.
+/// Returns the parts of `bytes` with these ends as texts. `bytes` are tested once, as a whole.
 ///
-/// The error is that `alloc` refused memory.
-pub(crate) fn utf8_front<'a>(alloc: Global, texts: &[&'a [u8]]) -> Result<Vec<&'a str>, AllocError>
-    ensures { IfOk result (λ front. IsUtf8Front (views texts.now) (views front.items)) }
-{
-    let mut front = Vec::with_capacity(alloc, texts.len())?;
-    for text in texts {
-        let Ok(text) = str::from_utf8(text) else {
-            return Ok(front);
-        };
-        front.push(text)?;
-    }
-    Ok(front)
-}
-
-/// Returns the parts of `bytes` with these ends as texts, or `None` if one of them is not UTF-8.
-///
-/// The error is that `alloc` refused memory.
+/// The error is about the first part that is not UTF-8, and has `status`; or memory was refused.
 pub(crate) fn texts<'a>(
     alloc: Global,
     bytes: &'a [u8],
     ends: &[usize],
-) -> Result<Option<Vec<&'a str>>, AllocError>
+    status: u32,
+) -> Result<Vec<&'a str>, Refusal>
     requires { AreEnds ends.now (length bytes.now) }
-    ensures { IfOk result (λ found. MatchOption found (¬ All IsUtf8 (parts ends.now bytes.now))
-        (λ texts. (views texts.items ≡ parts ends.now bytes.now)
-        × All IsUtf8 (parts ends.now bytes.now))) }
+    ensures ok { IfOk result (λ texts. (views texts.items ≡ parts ends.now bytes.now)
+        × All IsUtf8 (parts ends.now bytes.now)) }
+    ensures err { IfErr result
+        (IsAbout status (IsThatOfFirst IsUtf8 HasNoUtf8 (parts ends.now bytes.now))) }
 {
-    let parts = parts(alloc, bytes, ends)?;
-    let texts = utf8_front(alloc, parts.as_slice())?;
-    if texts.len() < parts.len() {
-        return Ok(None);
+    let front = utf8_front(bytes);
+    let mut texts = Vec::with_capacity(alloc, ends.len())?;
+    let mut begin = 0;
+    for &end in ends {
+        // The end is behind the front, or it cuts a character.
+        if !front.is_char_boundary(end) {
+            let start = front.floor_char_boundary(end) - begin;
+            return Err(Refusal {
+                status,
+                fault: CfgxFault::at_byte(texts.len(), start),
+            });
+        }
+        texts.push(&front[begin..end])?;
+        begin = end;
     }
-    Ok(Some(texts))
+    Ok(texts)
 }

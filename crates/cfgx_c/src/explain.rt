@@ -1,17 +1,21 @@
 //! What is wrong with a text, in words.
 
-ghost use Rattle.std.specs.Prelude.{◌≡◌, ◌≢◌, ◌≤◌, Err};
+ghost use Rattle.std.specs.Prelude.{◌≡◌, ◌≢◌, ◌≤◌, [], ◌∷◌, Err};
+ghost use Rattle.std.specs.Str.{IsUtf8};
 ghost use Rattle.cfgx_syntax.specs.Error.{Fault, error_text, fault_in};
 ghost use Rattle.cfgx_syntax.specs.Stripping.{strip};
-ghost use Rattle.cfgx_grammar.specs.Answer.{HasOneTree, ReadsAs};
-ghost use Rattle.cfgx_c.specs.Faults.{TellsUtf8};
+ghost use Rattle.cfgx_grammar.specs.Answer.{ReadsAs};
+ghost use Rattle.cfgx_c.specs.Faults.{IsCondition, Tells};
 ghost use Rattle.cfgx_c.specs.Buffer.{Fills};
 ghost use Rattle.cfgx_c.specs.Status.{done, faulty, not_utf8, wrong_use};
 
 use crate::buffer::fill;
-use crate::status::{DONE, FAULTY, NOT_UTF8, OUT_OF_MEMORY};
+use crate::fault::CfgxFault;
+use crate::reading::read_text;
+use crate::status::{DONE, FAULTY, OUT_OF_MEMORY};
 use cfg_expr::error::Failure;
 use cfg_expr::expr::ConditionReader;
+use cfgx_syntax::stripping::strip;
 use std::alloc::Global;
 
 /// Explains what is wrong with a text. Returns the status `FAULTY` if the text has a fault, and
@@ -19,24 +23,28 @@ use std::alloc::Global;
 ///
 /// Returns `DONE` if the text is a condition, `NOT_UTF8` if it is not UTF-8, and `OUT_OF_MEMORY` if
 /// memory was refused. Unless the status is `FAULTY`, `needed` becomes 0 and `message` is
-/// unchanged.
+/// unchanged. `fault` becomes what `cfgx_check` makes of it.
 #[unsafe(no_mangle)]
 pub extern "C" fn cfgx_explain(
     alloc: Global,
     text: &[u8],
     message: &mut [u8],
     needed: &mut usize,
+    fault: &mut CfgxFault,
 ) -> u32
-    ensures done { result ≡ done → HasOneTree (strip text.now) }
+    ensures done { result ≡ done → IsCondition text.now }
     ensures faulty { result ≡ faulty → (found : Fault) × ReadsAs (strip text.now) (Err found)
         × Fills (error_text (fault_in (strip text.now) found)) message.old message.new needed.new }
-    ensures utf8 { TellsUtf8 text.now result }
+    ensures read { Tells [] (text.now ∷ []) result fault.new }
+    ensures utf8 { result ≢ not_utf8 → IsUtf8 text.now }
     ensures kept { result ≢ faulty → (message.new ≡ message.old) × (needed.new ≡ 0) }
     ensures status { (result ≤ not_utf8) × (result ≢ wrong_use) }
 {
     *needed = 0;
-    let Ok(text) = str::from_utf8(text) else {
-        return NOT_UTF8;
+    *fault = CfgxFault::default();
+    let text = match read_text(text) {
+        Ok(text) => text,
+        Err(refusal) => return refusal.report(fault),
     };
     let mut reader = ConditionReader::new(alloc);
     let error = match reader.read(text) {
@@ -48,5 +56,6 @@ pub extern "C" fn cfgx_explain(
         return OUT_OF_MEMORY;
     };
     *needed = fill(message, printed.as_bytes());
+    *fault = CfgxFault::of(0, strip(text).offset, &error);
     FAULTY
 }

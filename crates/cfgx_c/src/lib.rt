@@ -19,6 +19,7 @@ mod run;
 mod status;
 mod steps;
 mod streams;
+mod tokens;
 mod value;
 mod version;
 
@@ -33,5 +34,6 @@ pub use fault::CfgxFault;
 pub use predicates::{CfgxPredicate, cfgx_predicates};
 pub use run::cfgx_run;
 pub use steps::CfgxStep;
+pub use tokens::{CfgxToken, cfgx_tokens};
 pub use value::cfgx_value;
 pub use version::cfgx_version;

@@ -1,20 +1,24 @@
 //! The predicates of a condition as C sees them.
 
-ghost use Rattle.std.specs.Prelude.{◌≡◌, ◌≢◌, ◌≤◌, ◌<◌, ◌+◌, ◌^◌, ℕ, List, IfOk, length};
-ghost use Rattle.cfgx_syntax.specs.Stripping.{strip};
-ghost use Rattle.cfg_expr.specs.Located.{CanBeCut};
-ghost use Rattle.cfgx_c.specs.Faults.{TellsOf};
+ghost use Rattle.std.specs.Prelude.{◌≡◌, ◌≢◌, ◌≤◌, ◌<◌, ◌+◌, ◌^◌, ◌++◌, ℕ, List, []};
+ghost use Rattle.std.specs.Prelude.{◌∷◌, IfErr, IfOk, OnErr, drop, length, map};
+ghost use Rattle.std.specs.Str.{IsUtf8};
+ghost use Rattle.cfgx_syntax.specs.Stripping.{strip, strip_offset};
+ghost use Rattle.cfg_expr.specs.Located.{AreLocated, CanBeCut};
 ghost use Rattle.cfgx_c.specs.Buffer.{Fills};
-ghost use Rattle.cfgx_c.specs.Predicates.{HasSpans, ListsPredicates, c_predicate, moved};
+ghost use Rattle.cfgx_c.specs.Faults.{Tells};
+ghost use Rattle.cfgx_c.specs.Predicates.{ListsPredicates, c_predicate, moved, moved_or_none};
 ghost use Rattle.cfgx_c.specs.Status.{done, not_utf8, wrong_use};
 ghost use Rattle.cfgx_c.specs.declared.predicates.CfgxPredicate.{CfgxPredicate};
+ghost use Rattle.cfgx_c.specs.internal.Refusals.{RefusesText};
+ghost use Rattle.cfgx_c.specs.internal.Spans.{HasSpans};
 
-use crate::buffer::fill;
-use crate::reading::read_condition;
-use crate::status::{DONE, NOT_UTF8, OUT_OF_MEMORY};
-use cfg_expr::expr::{Condition, ConditionReader, LocatedPredicate, Span};
+use crate::fault::{CfgxFault, Refusal};
+use crate::reading::{read_condition, read_text};
+use crate::status::DONE;
+use cfg_expr::expr::{ConditionReader, LocatedPredicate, LocatedPredicates, Span};
 use cfgx_syntax::stripping::strip;
-use std::alloc::{AllocError, Global};
+use std::alloc::Global;
 
 /// A predicate of a condition. Spans are in bytes of the text as it was passed.
 #[repr(C)]
@@ -25,6 +29,10 @@ pub struct CfgxPredicate {
     /// The number of bits of a pointer or of an atomic, 65536 for the width `ptr`, 0 for the byte
     /// order `big` or 1 for `little`; 0 for every other kind
     pub number: u32,
+    /// The start of the whole predicate
+    pub start: usize,
+    /// The end of the whole predicate: that of the quote that ends its value, or that of its key
+    pub end: usize,
     /// The start of the key, if the kind does not say it, else 0
     pub key_start: usize,
     /// The end of the key, if the kind does not say it, else 0
@@ -36,16 +44,24 @@ pub struct CfgxPredicate {
     pub value_end: usize,
 }
 
-/// Returns `span` moved by `offset` bytes, or that from 0 to 0 if there is none.
-fn moved(span: Option<Span>, offset: usize) -> Span
-    requires { (text : List ℕ) × CanBeCut text span × (length text + offset < 2 ^ 64) }
+/// Returns `span` moved by `offset` bytes.
+fn moved(span: Span, offset: usize) -> Span
+    requires { (span.start + offset < 2 ^ 64) × (span.end + offset < 2 ^ 64) }
     ensures { result ≡ moved offset span }
 {
+    Span {
+        start: span.start + offset,
+        end: span.end + offset,
+    }
+}
+
+/// Returns `span` moved by `offset` bytes, or that from 0 to 0 if there is none.
+fn moved_or_none(span: Option<Span>, offset: usize) -> Span
+    requires { (text : List ℕ) × CanBeCut text span × (length text + offset < 2 ^ 64) }
+    ensures { result ≡ moved_or_none offset span }
+{
     match span {
-        Some(span) => Span {
-            start: span.start + offset,
-            end: span.end + offset,
-        },
+        Some(span) => moved(span, offset),
         None => Span { start: 0, end: 0 },
     }
 }
@@ -55,11 +71,14 @@ fn c_predicate(predicate: LocatedPredicate, offset: usize) -> CfgxPredicate
     requires { (text : List ℕ) × HasSpans text predicate × (length text + offset < 2 ^ 64) }
     ensures { result ≡ c_predicate offset predicate }
 {
-    let key = moved(predicate.key, offset);
-    let value = moved(predicate.value, offset);
+    let whole = moved(predicate.span, offset);
+    let key = moved_or_none(predicate.key, offset);
+    let value = moved_or_none(predicate.value, offset);
     CfgxPredicate {
         kind: predicate.kind.number(),
         number: predicate.number,
+        start: whole.start,
+        end: whole.end,
         key_start: key.start,
         key_end: key.end,
         value_start: value.start,
@@ -67,25 +86,48 @@ fn c_predicate(predicate: LocatedPredicate, offset: usize) -> CfgxPredicate
     }
 }
 
-/// Returns the predicates of `text`, from which `condition` was read, in the order in which they
-/// are asked.
-///
-/// The error is that `alloc` refused memory.
-pub(crate) fn predicates_of(
-    alloc: Global,
+/// Writes the predicates of `text` to the start of `buffer`, which has room for them.
+pub(crate) fn write_predicates(
     text: &str,
-    condition: &Condition<'_>,
-) -> Result<Vec<CfgxPredicate>, AllocError>
-    requires { condition.now ≡ strip text.now }
-    ensures { IfOk result (λ list. ListsPredicates text.now list.items) }
+    predicates: LocatedPredicates<'_>,
+    buffer: &mut [CfgxPredicate],
+)
+    requires room { length predicates ≤ length buffer.old }
+    requires located { AreLocated (strip text.now) predicates }
+    ensures { buffer.new ≡ map (c_predicate (strip_offset text.now)) predicates.entry
+        ++ drop (length predicates.entry) buffer.old }
 {
     let offset = strip(text).offset;
-    let predicates = condition.located_predicates();
-    let mut list = Vec::with_capacity(alloc, predicates.left())?;
+    let mut written = 0;
     for predicate in predicates {
-        list.push(c_predicate(predicate, offset))?;
+        buffer[written] = c_predicate(predicate, offset);
+        written += 1;
     }
-    Ok(list)
+}
+
+/// Reads a condition, and fills `buffer` with its predicates. Returns their number.
+///
+/// The error is about the text, or memory was refused.
+fn fill_predicates(
+    alloc: Global,
+    text: &[u8],
+    buffer: &mut [CfgxPredicate],
+) -> Result<usize, Refusal>
+    ensures ok { IfOk result (λ needed. IsUtf8 text.now × (list : List CfgxPredicate)
+        × ListsPredicates text.now list × Fills list buffer.old buffer.new needed) }
+    ensures err { IfErr result (RefusesText text.now) }
+    ensures kept { OnErr result (buffer.new ≡ buffer.old) }
+{
+    let text = read_text(text)?;
+    let mut reader = ConditionReader::new(alloc);
+    let condition = read_condition(&mut reader, text)?;
+    let predicates = condition.located_predicates();
+    let needed = predicates.left();
+    if needed > buffer.len() {
+        return Ok(needed);
+    }
+    write_predicates(text, predicates, buffer);
+    Ok(needed)
 }
 
 /// Lists the predicates of a condition in the order in which they are asked. A predicate that
@@ -94,32 +136,30 @@ pub(crate) fn predicates_of(
 /// Returns the status `DONE`, and writes the number of predicates to `needed`. Fills `predicates`
 /// if it has room for all of them, and otherwise leaves it as it was. Returns `FAULTY` if the text
 /// has a fault, `NOT_UTF8` if it is not UTF-8, and `OUT_OF_MEMORY` if memory was refused. Unless
-/// the status is `DONE`, `needed` becomes 0, and `predicates` is unchanged.
+/// the status is `DONE`, `needed` becomes 0, and `predicates` is unchanged. `fault` becomes what
+/// `cfgx_check` makes of it.
 #[unsafe(no_mangle)]
 pub extern "C" fn cfgx_predicates(
     alloc: Global,
     text: &[u8],
     predicates: &mut [CfgxPredicate],
     needed: &mut usize,
+    fault: &mut CfgxFault,
 ) -> u32
     ensures done { result ≡ done → (list : List CfgxPredicate) × ListsPredicates text.now list
         × Fills list predicates.old predicates.new needed.new }
-    ensures read { TellsOf text.now result }
+    ensures read { Tells [] (text.now ∷ []) result fault.new }
+    ensures utf8 { result ≢ not_utf8 → IsUtf8 text.now }
     ensures kept { result ≢ done → (predicates.new ≡ predicates.old) × (needed.new ≡ 0) }
     ensures status { (result ≤ not_utf8) × (result ≢ wrong_use) }
 {
     *needed = 0;
-    let Ok(text) = str::from_utf8(text) else {
-        return NOT_UTF8;
-    };
-    let mut reader = ConditionReader::new(alloc);
-    let condition = match read_condition(&mut reader, text) {
-        Ok(condition) => condition,
-        Err(status) => return status,
-    };
-    let Ok(list) = predicates_of(alloc, text, &condition) else {
-        return OUT_OF_MEMORY;
-    };
-    *needed = fill(predicates, list.as_slice());
-    DONE
+    *fault = CfgxFault::default();
+    match fill_predicates(alloc, text, predicates) {
+        Ok(found) => {
+            *needed = found;
+            DONE
+        }
+        Err(refusal) => refusal.report(fault),
+    }
 }

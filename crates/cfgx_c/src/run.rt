@@ -41,10 +41,9 @@ pub extern "C" fn cfgx_run(
     if !are_ends(word_ends, words.len()) {
         return BAD_ENDS;
     }
-    let words = match texts(alloc, words, word_ends) {
-        Ok(Some(words)) => words,
-        Ok(None) => return NOT_UTF8,
-        Err(_) => return OUT_OF_MEMORY,
+    let words = match texts(alloc, words, word_ends, NOT_UTF8) {
+        Ok(words) => words,
+        Err(refusal) => return refusal.status,
     };
     let mut reader = SliceSource { left: input };
     let mut writer = VecSink::new(alloc);

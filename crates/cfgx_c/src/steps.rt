@@ -1,13 +1,13 @@
 //! Steps as C sees them.
 
-ghost use Rattle.std.specs.Prelude.{◌≡◌, [], IfOk, List, MatchBool, MatchOption, length, map};
+ghost use Rattle.std.specs.Prelude.{◌≡◌, [], List, MatchBool, MatchOption, length, map};
 ghost use Rattle.smallvec.specs.SmallVec.{HasRoomFor};
 ghost use Rattle.cfg_expr.specs.declared.expr.steps.Step.{Step};
 ghost use Rattle.cfgx_c.specs.Steps.{c_step};
 
-use cfg_expr::expr::Step;
+use cfg_expr::expr::{FromStep, Step};
 use smallvec::SmallVec;
-use std::alloc::{AllocError, Global};
+use std::alloc::Global;
 
 /// A step of the evaluation of a condition with a stack.
 #[repr(C)]
@@ -20,31 +20,22 @@ pub struct CfgxStep {
     pub count: usize,
 }
 
-/// Returns a step as C sees it.
-fn c_step(step: Step) -> CfgxStep
-    ensures { result ≡ c_step step }
-{
-    match step {
-        Step::Literal(false) => CfgxStep { kind: 0, count: 0 },
-        Step::Literal(true) => CfgxStep { kind: 1, count: 0 },
-        Step::Ask => CfgxStep { kind: 2, count: 0 },
-        Step::Not => CfgxStep { kind: 3, count: 1 },
-        Step::All(count) => CfgxStep { kind: 4, count },
-        Step::Any(count) => CfgxStep { kind: 5, count },
-    }
-}
+/// A step as C sees it.
+impl FromStep for CfgxStep {
+    ghost use Rattle.cfgx_c.specs.Steps.{c_step};
 
-/// Returns the steps as C sees them.
-///
-/// The error is that `alloc` refused memory.
-pub(crate) fn c_steps(alloc: Global, steps: &[Step]) -> Result<Vec<CfgxStep>, AllocError>
-    ensures { IfOk result (λ list. list.items ≡ map c_step steps.now) }
-{
-    let mut list = Vec::with_capacity(alloc, steps.len())?;
-    for step in steps {
-        list.push(c_step(*step))?;
+    ghost form = { c_step };
+
+    fn from_step(step: Step) -> CfgxStep {
+        match step {
+            Step::Literal(false) => CfgxStep { kind: 0, count: 0 },
+            Step::Literal(true) => CfgxStep { kind: 1, count: 0 },
+            Step::Ask => CfgxStep { kind: 2, count: 0 },
+            Step::Not => CfgxStep { kind: 3, count: 1 },
+            Step::All(count) => CfgxStep { kind: 4, count },
+            Step::Any(count) => CfgxStep { kind: 5, count },
+        }
     }
-    Ok(list)
 }
 
 /// Returns the step that C sees as `step`, or `None` if there is none.

@@ -1,12 +1,14 @@
 //! The value of a condition over answers.
 
-ghost use Rattle.std.specs.Prelude.{◌≡◌, ◌≢◌, ◌≤◌};
+ghost use Rattle.std.specs.Prelude.{◌≡◌, ◌≢◌, ◌≤◌, [], ◌∷◌};
+ghost use Rattle.std.specs.Str.{IsUtf8};
 ghost use Rattle.cfgx_syntax.specs.Stripping.{strip};
-ghost use Rattle.cfgx_c.specs.Faults.{TellsOf};
-ghost use Rattle.cfgx_c.specs.Status.{done, miscounted, wrong_use};
-ghost use Rattle.cfgx_c.specs.Value.{HasOtherCount, HasValueOver};
+ghost use Rattle.cfgx_c.specs.Faults.{Tells};
+ghost use Rattle.cfgx_c.specs.Status.{done, miscounted, not_utf8, wrong_use};
+ghost use Rattle.cfgx_c.specs.Value.{HasOtherCount, HasValueOver, byte_of_value};
 
 use crate::bytes::{byte_of_value, eval_over_bytes};
+use crate::fault::CfgxFault;
 use crate::reading::read_answered;
 use crate::status::{DONE, OUT_OF_MEMORY};
 use cfg_expr::expr::ConditionReader;
@@ -18,19 +20,29 @@ use std::alloc::Global;
 /// Returns the status `DONE`, and writes the value to `value`: 0 for false, 1 for true, 2 for
 /// unknown. Returns `FAULTY` if the text has a fault, `NOT_UTF8` if it is not UTF-8,
 /// `OUT_OF_MEMORY` if memory was refused, and `MISCOUNTED` if there are more or fewer answers than
-/// predicates. Unless the status is `DONE`, `value` is unchanged.
+/// predicates. Unless the status is `DONE`, `value` becomes 2. `fault` becomes what `cfgx_check`
+/// makes of it.
 #[unsafe(no_mangle)]
-pub extern "C" fn cfgx_value(alloc: Global, text: &[u8], answers: &[u8], value: &mut u8) -> u32
+pub extern "C" fn cfgx_value(
+    alloc: Global,
+    text: &[u8],
+    answers: &[u8],
+    value: &mut u8,
+    fault: &mut CfgxFault,
+) -> u32
     ensures done { result ≡ done → HasValueOver (strip text.now) answers.now value.new }
-    ensures read { TellsOf text.now result }
+    ensures read { Tells [] (text.now ∷ []) result fault.new }
+    ensures utf8 { result ≢ not_utf8 → IsUtf8 text.now }
     ensures miscounted { result ≡ miscounted → HasOtherCount (strip text.now) answers.now }
-    ensures kept { result ≢ done → value.new ≡ value.old }
+    ensures unknown { result ≢ done → value.new ≡ byte_of_value None }
     ensures status { (result ≤ miscounted) × (result ≢ wrong_use) }
 {
+    *value = byte_of_value(None);
+    *fault = CfgxFault::default();
     let mut reader = ConditionReader::new(alloc);
     let condition = match read_answered(&mut reader, text, answers) {
         Ok(condition) => condition,
-        Err(status) => return status,
+        Err(refusal) => return refusal.report(fault),
     };
     let Ok(found) = eval_over_bytes(alloc, &condition, answers) else {
         return OUT_OF_MEMORY;

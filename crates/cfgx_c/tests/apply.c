@@ -103,7 +103,7 @@ static void call(const void *item, size_t room, uint32_t status)
     free_block(steps);
     free_block(answers);
     expect_number("the status", found, status);
-    expect_filled(value, &row->value, status == CFGX_STATUS_DONE);
+    expect_value(value, row->value, status);
 }
 
 /* Returns the value of `all` or `any` over the values. */
@@ -253,30 +253,30 @@ static void test_random(size_t lists)
     expect_number("whether a twentieth of these lists has a value", values * 20 >= lists, 1);
 }
 
-#define MEMBERS 50000
+#define MANY 50000
 
-/* Compiles a condition of MEMBERS predicates, which are all true, and tests its value. */
+/* Compiles a condition of MANY predicates, which are all true, and tests its value. */
 static void test_long(const char *open, const char *member, const char *close, uint8_t value)
 {
-    static char text[8 * MEMBERS];
-    static struct cfgx_step steps[2 * MEMBERS + 1];
-    static struct cfgx_predicate predicates[MEMBERS];
-    static uint8_t answers[MEMBERS];
+    static char text[8 * MANY];
+    static struct cfgx_step steps[2 * MANY + 1];
+    static struct cfgx_predicate predicates[MANY];
+    static uint8_t answers[MANY];
     struct text name = {open, strlen(open)};
     size_t length = strlen(open), step_count, predicate_count;
     uint8_t found = 77;
     memcpy(text, open, length);
-    for (size_t i = 0; i < MEMBERS; i++) {
+    for (size_t i = 0; i < MANY; i++) {
         memcpy(text + length, member, strlen(member));
         length += strlen(member);
     }
     memcpy(text + length, close, strlen(close));
-    memset(answers, CFGX_VALUE_TRUE, MEMBERS);
+    memset(answers, CFGX_VALUE_TRUE, MANY);
     begin_row(name);
     uint32_t status = cfgx_compile(text, length + strlen(close), steps, COUNT(steps), &step_count,
-                                   predicates, COUNT(predicates), &predicate_count);
+                                   predicates, COUNT(predicates), &predicate_count, NULL);
     expect_number("the status of cfgx_compile", status, CFGX_STATUS_DONE);
-    expect_number("the number of predicates", predicate_count, MEMBERS);
+    expect_number("the number of predicates", predicate_count, MANY);
     status = cfgx_apply(steps, step_count, answers, predicate_count, &found);
     expect_number("the status", status, CFGX_STATUS_DONE);
     expect_number("the value", found, value);

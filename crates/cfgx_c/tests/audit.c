@@ -3,7 +3,7 @@
 
 #define MOST_TARGETS 3
 
-/* The values are bytes, and `place` is that of a faulty text or fact. */
+/* The values are bytes. */
 struct row {
     struct list texts;
     struct list facts;
@@ -12,15 +12,15 @@ struct row {
     uint8_t otherwise;
     uint32_t status;
     struct text values;
-    size_t place;
+    struct cfgx_fault fault;
 };
 
 #define LINUX TEXT("unix"), TEXT("target_os = \"linux\""), TEXT("feature = \"x\"")
 #define WINDOWS TEXT("windows"), TEXT("?feature = \"x\"")
 #define FREE TEXT("target_os = \"none\"")
 #define CONDITIONS TEXT("unix"), TEXT("any(windows, feature = \"x\")"), TEXT("cfg(not(flag))")
-#define DONE(values) CFGX_STATUS_DONE, TEXT(values), 0
-#define FAULTY(status, place) CFGX_STATUS_##status, TEXT(""), place
+#define DONE(values) CFGX_STATUS_DONE, TEXT(values), NO_FAULT
+#define REFUSED(status, fault) CFGX_STATUS_##status, TEXT(""), fault
 
 static const struct row rows[] = {
     {NO_TEXTS, NO_TEXTS, 0, {0}, 0, DONE("")},
@@ -44,20 +44,45 @@ static const struct row rows[] = {
     {LIST(TEXT("unix")), LIST(TEXT("target_new"), TEXT("unix"), TEXT("target_os")), 2, {2, 3}, 0,
      DONE("\1\0")},
 
-    {LIST(TEXT("a"), TEXT("b)"), TEXT("c)")), LIST(LINUX), 1, {3}, 0, FAULTY(FAULTY, 1)},
-    {LIST(TEXT("a"), TEXT("")), NO_TEXTS, 0, {0}, 0, FAULTY(FAULTY, 1)},
-    {LIST(TEXT("k = \"\xc3"), TEXT("\xa9\"")), NO_TEXTS, 0, {0}, 0, FAULTY(NOT_UTF8, 0)},
-    {LIST(TEXT("a"), TEXT("b"), TEXT("\xff")), LIST(LINUX), 1, {3}, 0, FAULTY(NOT_UTF8, 2)},
-    {LIST(TEXT("\xff"), TEXT("b)")), LIST(LINUX), 1, {3}, 0, FAULTY(NOT_UTF8, 0)},
-    {LIST(TEXT("b)"), TEXT("\xff")), LIST(LINUX), 1, {3}, 0, FAULTY(FAULTY, 0)},
-    {LIST(TEXT("a")), LIST(LINUX, TEXT("a)"), TEXT("b)")), 2, {2, 5}, 0, FAULTY(FAULTY_FACT, 3)},
-    {LIST(TEXT("a")), LIST(LINUX, TEXT("a"), TEXT("\xff")), 2, {2, 5}, 0, FAULTY(FAULTY_FACT, 4)},
-    {LIST(TEXT("a")), LIST(TEXT("unix = \"x\"")), 1, {1}, 0, FAULTY(FAULTY_FACT, 0)},
-    {NO_TEXTS, LIST(TEXT("a"), TEXT("a)")), 1, {2}, 0, FAULTY(FAULTY_FACT, 1)},
-    /* A faulty text comes before a faulty fact. */
-    {LIST(TEXT("a"), TEXT("b)")), LIST(TEXT("a)")), 1, {1}, 0, FAULTY(FAULTY, 1)},
+    {LIST(TEXT("a"), TEXT("b)"), TEXT("c)")), LIST(LINUX), 1, {3}, 0,
+     REFUSED(FAULTY, FAULT(1, 0, 1, 2, UNOPENED_PARENS))},
+    {LIST(TEXT("a"), TEXT("")), NO_TEXTS, 0, {0}, 0, REFUSED(FAULTY, FAULT(1, 0, 0, 0, EMPTY))},
+    {LIST(TEXT("a"), TEXT("b"), TEXT("cfg(not())")), LIST(LINUX), 1, {3}, 0,
+     REFUSED(FAULTY, MEMBERS(2, 4, 0, 5, 0))},
+    {LIST(TEXT("k = \"\xc3"), TEXT("\xa9\"")), NO_TEXTS, 0, {0}, 0, REFUSED(NOT_UTF8, BYTE(0, 5))},
+    {LIST(TEXT("a"), TEXT("b"), TEXT("\xff")), LIST(LINUX), 1, {3}, 0,
+     REFUSED(NOT_UTF8, BYTE(2, 0))},
+    {LIST(TEXT("\xff"), TEXT("b)")), LIST(LINUX), 1, {3}, 0, REFUSED(NOT_UTF8, BYTE(0, 0))},
+    /* All texts are tested for UTF-8 before one is read. An end may cut a character. */
+    {LIST(TEXT("b)"), TEXT("\xff")), LIST(LINUX), 1, {3}, 0, REFUSED(NOT_UTF8, BYTE(1, 0))},
+    {LIST(TEXT("a"), TEXT("k = \"\xc3"), TEXT("\xa9\""), TEXT("\xff")), NO_TEXTS, 0, {0}, 0,
+     REFUSED(NOT_UTF8, BYTE(1, 5))},
+    {LIST(TEXT("a"), TEXT(""), TEXT("\xe2\x82"), TEXT(""), TEXT("\xac")), NO_TEXTS, 0, {0}, 0,
+     REFUSED(NOT_UTF8, BYTE(2, 0))},
+    {LIST(TEXT("a"), TEXT("k = \"\xe2\x82")), NO_TEXTS, 0, {0}, 0, REFUSED(NOT_UTF8, BYTE(1, 5))},
+    {LIST(TEXT("a")), LIST(LINUX, TEXT("a)"), TEXT("b)")), 2, {2, 5}, 0,
+     REFUSED(FAULTY_FACT, FAULT(3, 0, 1, 2, UNOPENED_PARENS))},
+    {LIST(TEXT("a")), LIST(LINUX, TEXT("?cfg(a))")), 2, {2, 4}, 0,
+     REFUSED(FAULTY_FACT, FAULT(3, 5, 1, 2, UNOPENED_PARENS))},
+    {LIST(TEXT("a")), LIST(LINUX, TEXT("a"), TEXT("\xff")), 2, {2, 5}, 0,
+     REFUSED(FAULTY_FACT, BYTE(4, 0))},
+    {LIST(TEXT("a")), LIST(LINUX, TEXT("a"), TEXT("k\xff")), 2, {2, 5}, 0,
+     REFUSED(FAULTY_FACT, BYTE(4, 1))},
+    {LIST(TEXT("a")), LIST(TEXT("unix = \"x\"")), 1, {1}, 0,
+     REFUSED(FAULTY_FACT, TERMS(0, 0, 8, 9, NONE))},
+    {NO_TEXTS, LIST(TEXT("a"), TEXT("a)")), 1, {2}, 0,
+     REFUSED(FAULTY_FACT, FAULT(1, 0, 1, 2, UNOPENED_PARENS))},
+    /* The facts come before the texts. All are tested for UTF-8 before one is read. */
+    {LIST(TEXT("a"), TEXT("b)")), LIST(TEXT("a)")), 1, {1}, 0,
+     REFUSED(FAULTY_FACT, FAULT(0, 0, 1, 2, UNOPENED_PARENS))},
     {LIST(TEXT("a"), TEXT("\xff")), LIST(TEXT("a"), TEXT("\xff")), 2, {1, 2}, 0,
-     FAULTY(NOT_UTF8, 1)},
+     REFUSED(FAULTY_FACT, BYTE(1, 0))},
+    {LIST(TEXT("\xff")), LIST(TEXT("a"), TEXT("a)")), 2, {1, 2}, 0,
+     REFUSED(FAULTY_FACT, FAULT(1, 0, 1, 2, UNOPENED_PARENS))},
+    {LIST(TEXT("a")), LIST(TEXT("a)"), TEXT("\xff")), 2, {1, 2}, 0,
+     REFUSED(FAULTY_FACT, BYTE(1, 0))},
+    {LIST(TEXT("a")), LIST(TEXT("a"), TEXT("k = \"\xc3"), TEXT("\xa9\"")), 1, {3}, 0,
+     REFUSED(FAULTY_FACT, BYTE(1, 5))},
 };
 
 /* What a call is passed beside its buffer. */
@@ -71,19 +96,19 @@ struct passed {
 
 /* Makes a call, and checks the status and what is written. */
 static void audit(const struct passed *passed, size_t room, uint32_t status, struct text values,
-                  const size_t *place)
+                  const struct cfgx_fault *wanted)
 {
-    struct buffer found_values = make_buffer(&BYTES, room);
-    size_t needed = 12345, found_place = 54321;
+    struct buffer found_values = make_buffer(&BYTES, room), fault = make_buffer(&FAULTS, 1);
+    size_t needed = 12345;
     uint32_t found = cfgx_audit(passed->texts.bytes, passed->texts.length, passed->texts.ends,
                                 passed->texts.count, passed->facts.bytes, passed->facts.length,
                                 passed->facts.ends, passed->facts.count, passed->target_ends,
                                 passed->target_count, passed->otherwise, found_values.bytes, room,
-                                &needed, &found_place);
+                                &needed, (struct cfgx_fault *)fault.bytes);
     expect_number("the status", found, status);
     expect_number("the number of values", needed, values.length);
-    expect_number("the place", found_place, place == NULL ? 54321 : *place);
     expect_filled(found_values, values.bytes, values.length);
+    expect_fault(fault, wanted, status);
 }
 
 static void call(const void *item, size_t room, uint32_t status)
@@ -94,9 +119,7 @@ static void call(const void *item, size_t room, uint32_t status)
     size_t *target_ends = block_of(ends);
     struct passed passed = {join(row->texts), join(row->facts), target_ends, row->target_count,
                             row->otherwise};
-    int has_place = status != CFGX_STATUS_DONE && status != CFGX_STATUS_OUT_OF_MEMORY;
-    audit(&passed, room, status, status == CFGX_STATUS_DONE ? row->values : none,
-          has_place ? &row->place : NULL);
+    audit(&passed, room, status, status == CFGX_STATUS_DONE ? row->values : none, &row->fault);
     free_joined(passed.texts);
     free_joined(passed.facts);
     free_block(target_ends);

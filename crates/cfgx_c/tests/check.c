@@ -7,16 +7,9 @@ struct row {
     struct cfgx_fault fault;
 };
 
-#define GOOD(literal) {TEXT(literal), CFGX_STATUS_DONE, {0, 0, 0, 0, 0, 0}}
-#define NOT_UTF8(literal) {TEXT(literal), CFGX_STATUS_NOT_UTF8, {0, 0, 0, 0, 0, 0}}
-#define FAULT(literal, offset, start, end, reason)                                                 \
-    {TEXT(literal), CFGX_STATUS_FAULTY, {offset, start, end, 0, CFGX_REASON_##reason, 0}}
-#define NOT(literal, offset, start, end, members)                                                  \
-    {TEXT(literal), CFGX_STATUS_FAULTY,                                                            \
-     {offset, start, end, members, CFGX_REASON_INVALID_NOT, 0}}
-#define TERMS(literal, offset, start, end, terms)                                                  \
-    {TEXT(literal), CFGX_STATUS_FAULTY,                                                            \
-     {offset, start, end, 0, CFGX_REASON_UNEXPECTED, CFGX_TERMS_##terms}}
+#define GOOD(literal) {TEXT(literal), CFGX_STATUS_DONE, NO_FAULT}
+#define NOT_UTF8(literal, start) {TEXT(literal), CFGX_STATUS_NOT_UTF8, BYTE(0, start)}
+#define FAULTY(literal, fault) {TEXT(literal), CFGX_STATUS_FAULTY, fault}
 
 static const struct row rows[] = {
     GOOD("cfg(all(unix, not(windows)))"),
@@ -26,55 +19,58 @@ static const struct row rows[] = {
     GOOD("key = \"\xc3\xa9\xe2\x82\xac\xf0\x9f\xa6\x80\""),
     GOOD("\xe3\x80\x80key\xe3\x80\x80"),
 
-    NOT_UTF8("a = \"\xff\""),
-    NOT_UTF8("a = \"\xc3\""),
-    NOT_UTF8("8 \xc3"),
-    NOT_UTF8("\0\x80"),
+    NOT_UTF8("a = \"\xff\"", 5),
+    NOT_UTF8("a = \"\xc3\"", 5),
+    NOT_UTF8("8 \xc3", 2),
+    NOT_UTF8("\0\x80", 1),
+    /* Nothing is stripped of such a text. */
+    NOT_UTF8("cfg(\xff)", 4),
+    NOT_UTF8("key = \"\xc3\xa9\xe2\x82\"", 9),
 
-    NOT("not()", 0, 0, 5, 0),
-    NOT("not() \"", 0, 0, 5, 0),
-    NOT("not(a, b, c)", 0, 0, 12, 3),
-    NOT("cfg(not(all(a, b), c))", 4, 0, 17, 2),
-    FAULT("all(any(a)", 0, 3, 10, UNCLOSED_PARENS),
-    FAULT("cfg(all(a)", 4, 3, 5, UNCLOSED_PARENS),
-    FAULT("feature)", 0, 7, 8, UNOPENED_PARENS),
-    FAULT("key = \"open", 0, 6, 11, UNCLOSED_QUOTES),
-    FAULT("", 0, 0, 0, EMPTY),
-    FAULT("cfg()", 4, 0, 0, EMPTY),
-    FAULT("cfg( \xc2\xa0)", 4, 0, 3, EMPTY),
-    FAULT("target_endian = \"Big\"", 0, 17, 20, INVALID_INTEGER),
-    FAULT("target_pointer_width = \"256\"", 0, 24, 27, INVALID_INTEGER),
-    FAULT("target_has_atomic = \"x\"", 0, 21, 22, INVALID_HAS_ATOMIC),
-    FAULT("all(), any()", 0, 0, 12, MULTIPLE_ROOT_PREDICATES),
-    TERMS("a 8", 0, 2, 3, START),
-    TERMS("cfg(a 8)", 4, 2, 3, START),
-    TERMS("any(,)", 0, 4, 5, OPEN),
-    TERMS("a, \"b\"", 0, 3, 6, COMMA),
-    TERMS("a b", 0, 2, 3, KEY),
-    TERMS("cfg(a) ", 0, 3, 4, KEY),
-    TERMS("cfg(cfg(a))", 4, 3, 4, KEY),
-    TERMS("a = b", 0, 4, 5, EQUALS),
-    TERMS("a = \"b\" c", 0, 8, 9, VALUE),
-    TERMS("not a", 0, 4, 5, FUNCTION),
-    TERMS("all(any", 0, 4, 7, FUNCTION),
-    TERMS("all() a", 0, 6, 7, CLOSE),
-    TERMS("unix = \"x\"", 0, 8, 9, NONE),
-    TERMS("feature", 0, 0, 7, FEATURE_NAME),
-    TERMS("panic", 0, 0, 5, PANIC_STRATEGY),
-    TERMS("a, target_os", 0, 3, 12, TARGET_VALUE),
-    TERMS("target_feature = \"\"", 0, 18, 18, TARGET_FEATURE),
-    TERMS("target_ = \"x\"", 0, 0, 7, TARGET_KEY),
-    TERMS("all(a =", 0, 7, 7, END),
+    FAULTY("not()", MEMBERS(0, 0, 0, 5, 0)),
+    FAULTY("not() \"", MEMBERS(0, 0, 0, 5, 0)),
+    FAULTY("not(a, b, c)", MEMBERS(0, 0, 0, 12, 3)),
+    FAULTY("cfg(not(all(a, b), c))", MEMBERS(0, 4, 0, 17, 2)),
+    FAULTY("all(any(a)", FAULT(0, 0, 3, 10, UNCLOSED_PARENS)),
+    FAULTY("cfg(all(a)", FAULT(0, 4, 3, 5, UNCLOSED_PARENS)),
+    FAULTY("feature)", FAULT(0, 0, 7, 8, UNOPENED_PARENS)),
+    FAULTY("key = \"open", FAULT(0, 0, 6, 11, UNCLOSED_QUOTES)),
+    FAULTY("", FAULT(0, 0, 0, 0, EMPTY)),
+    FAULTY("cfg()", FAULT(0, 4, 0, 0, EMPTY)),
+    FAULTY("cfg( \xc2\xa0)", FAULT(0, 4, 0, 3, EMPTY)),
+    FAULTY("target_endian = \"Big\"", FAULT(0, 0, 17, 20, INVALID_INTEGER)),
+    FAULTY("target_pointer_width = \"256\"", FAULT(0, 0, 24, 27, INVALID_INTEGER)),
+    FAULTY("target_has_atomic = \"x\"", FAULT(0, 0, 21, 22, INVALID_HAS_ATOMIC)),
+    FAULTY("all(), any()", FAULT(0, 0, 0, 12, MULTIPLE_ROOT_PREDICATES)),
+    FAULTY("a 8", TERMS(0, 0, 2, 3, START)),
+    FAULTY("cfg(a 8)", TERMS(0, 4, 2, 3, START)),
+    FAULTY("any(,)", TERMS(0, 0, 4, 5, OPEN)),
+    FAULTY("a, \"b\"", TERMS(0, 0, 3, 6, COMMA)),
+    FAULTY("a b", TERMS(0, 0, 2, 3, KEY)),
+    FAULTY("cfg(a) ", TERMS(0, 0, 3, 4, KEY)),
+    FAULTY("cfg(cfg(a))", TERMS(0, 4, 3, 4, KEY)),
+    FAULTY("a = b", TERMS(0, 0, 4, 5, EQUALS)),
+    FAULTY("a = \"b\" c", TERMS(0, 0, 8, 9, VALUE)),
+    FAULTY("not a", TERMS(0, 0, 4, 5, FUNCTION)),
+    FAULTY("all(any", TERMS(0, 0, 4, 7, FUNCTION)),
+    FAULTY("all() a", TERMS(0, 0, 6, 7, CLOSE)),
+    FAULTY("unix = \"x\"", TERMS(0, 0, 8, 9, NONE)),
+    FAULTY("feature", TERMS(0, 0, 0, 7, FEATURE_NAME)),
+    FAULTY("panic", TERMS(0, 0, 0, 5, PANIC_STRATEGY)),
+    FAULTY("a, target_os", TERMS(0, 0, 3, 12, TARGET_VALUE)),
+    FAULTY("target_feature = \"\"", TERMS(0, 0, 18, 18, TARGET_FEATURE)),
+    FAULTY("target_ = \"x\"", TERMS(0, 0, 0, 7, TARGET_KEY)),
+    FAULTY("all(a =", TERMS(0, 0, 7, 7, END)),
 
     /* Spans count bytes, and the span of a character that begins no token is its first byte. */
-    TERMS("a = \"\xc3\xa9\xe2\x82\xac\" b", 0, 12, 13, VALUE),
-    TERMS("cfg(a = \"\xf0\x9f\xa6\x80\", \xc3\xa9)", 4, 12, 13, START),
-    FAULT("a = \"\xc3\xa9\", b = \"\xc3\xa9", 0, 14, 17, UNCLOSED_QUOTES),
-    NOT("a = \"\xc3\xa9\", not()", 0, 10, 15, 0),
+    FAULTY("a = \"\xc3\xa9\xe2\x82\xac\" b", TERMS(0, 0, 12, 13, VALUE)),
+    FAULTY("cfg(a = \"\xf0\x9f\xa6\x80\", \xc3\xa9)", TERMS(0, 4, 12, 13, START)),
+    FAULTY("a = \"\xc3\xa9\", b = \"\xc3\xa9", FAULT(0, 0, 14, 17, UNCLOSED_QUOTES)),
+    FAULTY("a = \"\xc3\xa9\", not()", MEMBERS(0, 0, 10, 15, 0)),
     /* A zero byte begins no token, and ends nothing. */
-    TERMS("a\0", 0, 1, 2, START),
-    TERMS("unix\0unix", 0, 4, 5, START),
-    TERMS("key = \"a\0b\" c", 0, 12, 13, VALUE),
+    FAULTY("a\0", TERMS(0, 0, 1, 2, START)),
+    FAULTY("unix\0unix", TERMS(0, 0, 4, 5, START)),
+    FAULTY("key = \"a\0b\" c", TERMS(0, 0, 12, 13, VALUE)),
 };
 
 static void call(const void *item, size_t room, uint32_t status)
@@ -86,7 +82,7 @@ static void call(const void *item, size_t room, uint32_t status)
     (void)room;
     free_block(text);
     expect_number("the status", found, status);
-    expect_filled(fault, &row->fault, status == CFGX_STATUS_FAULTY);
+    expect_fault(fault, &row->fault, status);
 }
 
 int main(void)

@@ -1,8 +1,12 @@
-"""Conditions read by a reader of its own, which knows only accepted texts: their predicates with
-spans, their steps and their values. It is what the calls are compared with."""
+"""Texts read by a reader of its own: the tokens of each text, and of accepted texts the predicates
+with spans, the steps and the values. It is what the calls are compared with."""
 import re
 
 TOKEN = re.compile(rb'[A-Za-z_][A-Za-z0-9_]*|"[^"]*"|[=(),]')
+# The characters with the property White_Space of Unicode 16.
+BLANKS = re.compile("[\t-\r \x85\xa0\u1680\u2000-\u200a\u2028\u2029\u202f\u205f\u3000]*")
+SIGNS = {b"=": 3, b"all": 4, b"any": 5, b"not": 6, b"(": 7, b")": 8, b",": 9}
+UNCLOSED_QUOTES, UNEXPECTED, START = 5, 8, 2
 FUNCTIONS = {b"not": 3, b"all": 4, b"any": 5}
 LITERALS = {b"false": 0, b"true": 1}
 ASK = 2
@@ -22,28 +26,61 @@ def predicate_of(key, value):
     word = key.group()
     if value is None:
         if word in (b"unix", b"windows"):
-            return (FAMILY, 0, 0, 0, *key.span())
+            return (FAMILY, 0, *key.span(), 0, 0, *key.span())
         if word in ALONE:
-            return (ALONE[word], 0, 0, 0, 0, 0)
-        return (FLAG, 0, *key.span(), 0, 0)
+            return (ALONE[word], 0, *key.span(), 0, 0, 0, 0)
+        return (FLAG, 0, *key.span(), *key.span(), 0, 0)
     inside = value.group()[1:-1]
-    span = (value.start() + 1, value.end() - 1)
+    whole, span = (key.start(), value.end()), (value.start() + 1, value.end() - 1)
     if word in NUMBERS:
         number = WORDS[inside] if inside in WORDS else int(inside)
-        return (NUMBERS[word], number, 0, 0, 0, 0)
+        return (NUMBERS[word], number, *whole, 0, 0, 0, 0)
     if word in TEXTS:
-        return (TEXTS[word], 0, 0, 0, *span)
-    return (KEY_VALUE, 0, *key.span(), *span)
+        return (TEXTS[word], 0, *whole, 0, 0, *span)
+    return (KEY_VALUE, 0, *whole, *key.span(), *span)
+
+
+def stripped(text):
+    """Returns where the stripped text begins and ends."""
+    is_stripped = text.startswith(b"cfg(") and text.endswith(b")")
+    return (4, len(text) - 1) if is_stripped else (0, len(text))
+
+
+def behind_blanks(text, at, end):
+    """Returns the first place from `at` on that is behind all white space."""
+    return at + len(BLANKS.match(text[at:end].decode())[0].encode())
+
+
+def kind_of(word):
+    """Returns the number of the kind of a token."""
+    return SIGNS.get(word, 2 if word.startswith(b'"') else 1)
+
+
+def fault_at(text, at, end):
+    """Returns the fields of the fault at a place: a quote that is never closed, up to the end, or
+    one byte with which no token can start."""
+    offset, _ = stripped(text)
+    if text[at:at + 1] == b'"':
+        return 0, offset, at - offset, end - offset, 0, UNCLOSED_QUOTES, 0
+    return 0, offset, at - offset, at + 1 - offset, 0, UNEXPECTED, START
+
+
+def tokens_of(text):
+    """Returns the kind, the start and the end of each token, where the stripped text begins, and
+    the fields of the lexical fault, or None if there is none."""
+    (offset, end), tokens = stripped(text), []
+    at = behind_blanks(text, offset, end)
+    while token := TOKEN.match(text, at, end):
+        tokens.append((kind_of(token[0]), *token.span()))
+        at = behind_blanks(text, token.end(), end)
+    return tokens, offset, None if at == end else fault_at(text, at, end)
 
 
 class Condition:
     """An accepted text."""
 
     def __init__(self, text):
-        is_stripped = text.startswith(b"cfg(") and text.endswith(b")")
-        offset = 4 if is_stripped else 0
-        tokens = TOKEN.finditer(text, offset, len(text) - 1 if is_stripped else len(text))
-        self.tokens = list(tokens)
+        self.tokens = list(TOKEN.finditer(text, *stripped(text)))
         self.tree = self.read_members(0)[0][0]
 
     def read_members(self, at):
@@ -96,7 +133,7 @@ def is_function(member):
 
 def is_predicate(member):
     """Whether the member is a predicate."""
-    return isinstance(member, tuple) and len(member) == 6
+    return isinstance(member, tuple) and len(member) == 8
 
 
 def walk(member):

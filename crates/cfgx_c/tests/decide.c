@@ -8,14 +8,17 @@ struct row {
     uint32_t status;
     uint8_t value;
     struct text fillings;
+    struct cfgx_fault fault;
 };
 
 #define KNOWN(literal, answers, value)                                                             \
-    {TEXT(literal), TEXT(answers), CFGX_STATUS_DONE, CFGX_VALUE_##value, TEXT("")}
+    {TEXT(literal), TEXT(answers), CFGX_STATUS_DONE, CFGX_VALUE_##value, TEXT(""),         \
+     NO_FAULT}
 #define UNKNOWN(literal, answers, fillings)                                                        \
-    {TEXT(literal), TEXT(answers), CFGX_STATUS_DONE, CFGX_VALUE_UNKNOWN, TEXT(fillings)}
-#define NO_VALUE(literal, answers, status)                                                         \
-    {TEXT(literal), TEXT(answers), CFGX_STATUS_##status, 0, TEXT("")}
+    {TEXT(literal), TEXT(answers), CFGX_STATUS_DONE, CFGX_VALUE_UNKNOWN, TEXT(fillings),   \
+     NO_FAULT}
+#define NO_VALUE(literal, answers, status, fault)                                                  \
+    {TEXT(literal), TEXT(answers), CFGX_STATUS_##status, 0, TEXT(""), fault}
 
 static const struct row rows[] = {
     KNOWN("true", "", TRUE),
@@ -34,11 +37,12 @@ static const struct row rows[] = {
     UNKNOWN("cfg(not(all(a, not(b))))", "\2\2", "\1\0\0\1"),
     UNKNOWN("any(c, all(a, not(b), true), false)", "\2\1\0", "\0\1\0\1\1\0"),
 
-    NO_VALUE("all(a, b)", "\1", MISCOUNTED),
-    NO_VALUE("all(a, b)", "\2\2\2", MISCOUNTED),
-    NO_VALUE("all(a, b", "\2\2", FAULTY),
-    NO_VALUE("", "", FAULTY),
-    NO_VALUE("a = \"\xff\"", "\2", NOT_UTF8),
+    NO_VALUE("all(a, b)", "\1", MISCOUNTED, NO_FAULT),
+    NO_VALUE("all(a, b)", "\2\2\2", MISCOUNTED, NO_FAULT),
+    NO_VALUE("all(a, b", "\2\2", FAULTY, FAULT(0, 0, 3, 8, UNCLOSED_PARENS)),
+    NO_VALUE("", "", FAULTY, FAULT(0, 0, 0, 0, EMPTY)),
+    NO_VALUE("cfg()", "", FAULTY, FAULT(0, 4, 0, 0, EMPTY)),
+    NO_VALUE("a = \"\xff\"", "\2", NOT_UTF8, BYTE(0, 5)),
 };
 
 static void call(const void *item, size_t room, uint32_t status)
@@ -47,15 +51,18 @@ static void call(const void *item, size_t room, uint32_t status)
     char *text = block_of(row->text);
     uint8_t *answers = block_of(row->answers);
     struct buffer fillings = make_buffer(&BYTES, room), value = make_buffer(&BYTES, 1);
+    struct buffer fault = make_buffer(&FAULTS, 1);
     size_t needed = 12345, wanted = status == CFGX_STATUS_DONE ? row->fillings.length : 0;
     uint32_t found = cfgx_decide(text, row->text.length, answers, row->answers.length,
-                                 fillings.bytes, room, &needed, value.bytes);
+                                 fillings.bytes, room, &needed, value.bytes,
+                                 (struct cfgx_fault *)fault.bytes);
     free_block(text);
     free_block(answers);
     expect_number("the status", found, status);
     expect_number("the number of bytes that are needed", needed, wanted);
     expect_filled(fillings, row->fillings.bytes, wanted);
-    expect_filled(value, &row->value, status == CFGX_STATUS_DONE);
+    expect_value(value, row->value, status);
+    expect_fault(fault, &row->fault, status);
 }
 
 int main(void)

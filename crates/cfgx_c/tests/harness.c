@@ -154,9 +154,9 @@ static void print_faults(const void *items, size_t count)
 {
     const struct cfgx_fault *fault = items;
     for (size_t i = 0; i < count; i++) {
-        printf("{offset %zu, span %zu..%zu, members %zu, reason %u, terms %u} ", fault[i].offset,
-               fault[i].start, fault[i].end, fault[i].members, (unsigned)fault[i].reason,
-               (unsigned)fault[i].terms);
+        printf("{item %zu, offset %zu, span %zu..%zu, members %zu, reason %u, terms %u} ",
+               fault[i].item, fault[i].offset, fault[i].start, fault[i].end, fault[i].members,
+               (unsigned)fault[i].reason, (unsigned)fault[i].terms);
     }
 }
 
@@ -169,8 +169,9 @@ static void print_predicates(const void *items, size_t count)
 {
     const struct cfgx_predicate *predicate = items;
     for (size_t i = 0; i < count; i++) {
-        printf("{kind %u, number %u, key %zu..%zu, value %zu..%zu} ", (unsigned)predicate[i].kind,
-               (unsigned)predicate[i].number, predicate[i].key_start, predicate[i].key_end,
+        printf("{kind %u, number %u, span %zu..%zu, key %zu..%zu, value %zu..%zu} ",
+               (unsigned)predicate[i].kind, (unsigned)predicate[i].number, predicate[i].start,
+               predicate[i].end, predicate[i].key_start, predicate[i].key_end,
                predicate[i].value_start, predicate[i].value_end);
     }
 }
@@ -195,10 +196,26 @@ static int is_same_step(const void *found, const void *wanted)
     return one->kind == other->kind && one->count == other->count;
 }
 
+static void print_tokens(const void *items, size_t count)
+{
+    const struct cfgx_token *token = items;
+    for (size_t i = 0; i < count; i++) {
+        printf("{kind %u, span %zu..%zu} ", (unsigned)token[i].kind, token[i].start, token[i].end);
+    }
+}
+
+/* A token has bytes that belong to no field. */
+static int is_same_token(const void *found, const void *wanted)
+{
+    const struct cfgx_token *one = found, *other = wanted;
+    return one->kind == other->kind && one->start == other->start && one->end == other->end;
+}
+
 const struct kind BYTES = {1, is_same_byte, print_bytes};
 const struct kind FAULTS = {sizeof(struct cfgx_fault), is_same_fault, print_faults};
 const struct kind PREDICATES = {sizeof(struct cfgx_predicate), is_same_predicate, print_predicates};
 const struct kind STEPS = {sizeof(struct cfgx_step), is_same_step, print_steps};
+const struct kind TOKENS = {sizeof(struct cfgx_token), is_same_token, print_tokens};
 
 /* Counts a failure, and prints what it is about. */
 static void begin_failure(const char *what)
@@ -270,6 +287,20 @@ void expect_filled(struct buffer buffer, const void *items, size_t count)
         printf("\n");
     }
     free_block(buffer.bytes);
+}
+
+void expect_fault(struct buffer fault, const struct cfgx_fault *wanted, uint32_t status)
+{
+    static const struct cfgx_fault none = NO_FAULT;
+    int is_told = status == CFGX_STATUS_FAULTY || status == CFGX_STATUS_NOT_UTF8
+        || status == CFGX_STATUS_FAULTY_FACT;
+    expect_filled(fault, is_told ? wanted : &none, 1);
+}
+
+void expect_value(struct buffer value, uint8_t wanted, uint32_t status)
+{
+    uint8_t told = status == CFGX_STATUS_DONE ? wanted : CFGX_VALUE_UNKNOWN;
+    expect_filled(value, &told, 1);
 }
 
 void begin_row_of(struct list texts)

@@ -42,7 +42,19 @@ struct kind {
     void (*print)(const void *items, size_t count);
 };
 
-extern const struct kind BYTES, FAULTS, PREDICATES, STEPS;
+extern const struct kind BYTES, FAULTS, PREDICATES, STEPS, TOKENS;
+
+/* The faults of an item: none, that of bytes that are not UTF-8, and those with a reason. */
+#define NO_FAULT {0, 0, 0, 0, 0, 0, 0}
+#define BYTE(item, start) {item, 0, start, (start) + 1, 0, CFGX_REASON_NONE, 0}
+#define FAULT(item, offset, start, end, reason)                                                    \
+    {item, offset, start, end, 0, CFGX_REASON_##reason, 0}
+#define MEMBERS(item, offset, start, end, members)                                                 \
+    {item, offset, start, end, members, CFGX_REASON_INVALID_NOT, 0}
+#define TERMS(item, offset, start, end, terms)                                                     \
+    {item, offset, start, end, 0, CFGX_REASON_UNEXPECTED, CFGX_TERMS_##terms}
+
+#define NO_PREDICATE {0, 0, 0, 0, 0, 0, 0, 0}
 
 /* A buffer with guards behind it. */
 struct buffer {
@@ -75,6 +87,14 @@ struct buffer make_buffer(const struct kind *kind, size_t room);
 /* Expects that the buffer begins with the items if it has room for all, and that all its other
  * bytes and the guards are as they were. Frees the buffer. */
 void expect_filled(struct buffer buffer, const void *items, size_t count);
+
+/* Expects the fault in a buffer for one if the status is about a text or a fact, and else zeros.
+ * Frees the buffer. */
+void expect_fault(struct buffer fault, const struct cfgx_fault *wanted, uint32_t status);
+
+/* Expects the value in a buffer for one if the status is CFGX_STATUS_DONE, and else
+ * CFGX_VALUE_UNKNOWN. Frees the buffer. */
+void expect_value(struct buffer value, uint8_t wanted, uint32_t status);
 
 void expect_number(const char *what, size_t found, size_t wanted);
 

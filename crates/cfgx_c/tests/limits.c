@@ -5,19 +5,19 @@
 
 #include <string.h>
 
-#define MEMBERS 50000
+#define MANY 50000
 #define MOST_INPUT ((size_t)1 << 24)
 
-static char long_text[4 * MEMBERS], long_output[MOST_INPUT + 1], input[MOST_INPUT + 1];
-static uint8_t answers[MEMBERS];
-static struct text words[MEMBERS + 2];
+static char long_text[4 * MANY], long_output[MOST_INPUT + 1], input[MOST_INPUT + 1];
+static uint8_t answers[MANY];
+static struct text words[MANY + 2];
 
 /* Writes the start of a text, a piece many times and the end, and returns the text. */
 static struct text repeat(char *bytes, const char *start, const char *piece, const char *end)
 {
     size_t length = strlen(start), size = strlen(piece);
     memcpy(bytes, start, length);
-    for (size_t i = 0; i < MEMBERS; i++) {
+    for (size_t i = 0; i < MANY; i++) {
         memcpy(bytes + length, piece, size);
         length += size;
     }
@@ -40,17 +40,17 @@ static void check(const void *item, size_t room, uint32_t status)
     (void)room;
     free_block(text);
     expect_number("the status", found, status);
-    expect_filled(fault, &row->fault, status == CFGX_STATUS_FAULTY);
+    expect_fault(fault, &row->fault, status);
 }
 
 static void test_checks(void)
 {
-    struct check row = {repeat(long_text, "cfg(not(", "a,", "))"), {4, 0, 0, MEMBERS, 1, 0}};
+    struct check row = {repeat(long_text, "cfg(not(", "a,", "))"), {0, 4, 0, 0, MANY, 1, 0}};
     struct text not = {"not(a,a..)", 10};
     row.fault.end = row.text.length - 5;
     begin_row(not);
     test_growths(check, &row, 0, CFGX_STATUS_FAULTY);
-    struct check open = {repeat(long_text, "all(", "a,", ""), {0, 3, 0, 0, 3, 0}};
+    struct check open = {repeat(long_text, "all(", "a,", ""), {0, 0, 3, 0, 0, 3, 0}};
     struct text all = {"all(a,a..", 9};
     open.fault.end = open.text.length;
     begin_row(all);
@@ -70,26 +70,27 @@ static void value(const void *item, size_t room, uint32_t status)
     char *text = block_of(row->text);
     uint8_t *block = block_of(bytes);
     struct buffer found_value = make_buffer(&BYTES, 1);
-    uint32_t found = cfgx_value(text, row->text.length, block, bytes.length, found_value.bytes);
+    uint32_t found = cfgx_value(text, row->text.length, block, bytes.length, found_value.bytes,
+                                NULL);
     (void)room;
     free_block(text);
     free_block(block);
     expect_number("the status", found, status);
-    expect_filled(found_value, &row->value, status == CFGX_STATUS_DONE);
+    expect_value(found_value, row->value, status);
 }
 
 static void test_values(void)
 {
-    struct value row = {repeat(long_text, "all(", "a,", ")"), MEMBERS, CFGX_VALUE_TRUE};
+    struct value row = {repeat(long_text, "all(", "a,", ")"), MANY, CFGX_VALUE_TRUE};
     struct text name = {"all(a,a..)", 10};
-    memset(answers, CFGX_VALUE_TRUE, MEMBERS);
+    memset(answers, CFGX_VALUE_TRUE, MANY);
     begin_row(name);
     test_growths(value, &row, 0, CFGX_STATUS_DONE);
     row.answer_count--;
     test_growths(value, &row, 0, CFGX_STATUS_MISCOUNTED);
     row.answer_count++;
     row.value = CFGX_VALUE_UNKNOWN;
-    answers[MEMBERS - 1] = CFGX_VALUE_UNKNOWN;
+    answers[MANY - 1] = CFGX_VALUE_UNKNOWN;
     test_growths(value, &row, 0, CFGX_STATUS_DONE);
     row.value = CFGX_VALUE_FALSE;
     answers[0] = CFGX_VALUE_FALSE;
@@ -128,16 +129,16 @@ static void test_words(void)
     long_word.output = repeat(long_output, "", "a\n", "");
     begin_row(parse);
     test_growths(run, &long_word, long_word.output.length, CFGX_STATUS_DONE);
-    struct run many_words = {{words, MEMBERS}, TEXT(""), CFGX_STATUS_DONE, TEXT("false\n")};
+    struct run many_words = {{words, MANY}, TEXT(""), CFGX_STATUS_DONE, TEXT("false\n")};
     words[0] = eval;
     words[1] = last;
-    for (size_t i = 2; i < MEMBERS; i++) {
+    for (size_t i = 2; i < MANY; i++) {
         words[i] = other;
     }
     begin_row(eval);
     run(&many_words, 10, CFGX_STATUS_DONE);
-    struct run with_last = {{words, MEMBERS + 1}, TEXT(""), CFGX_STATUS_DONE, TEXT("true\n")};
-    words[MEMBERS] = last;
+    struct run with_last = {{words, MANY + 1}, TEXT(""), CFGX_STATUS_DONE, TEXT("true\n")};
+    words[MANY] = last;
     run(&with_last, 10, CFGX_STATUS_DONE);
 }
 

@@ -19,9 +19,10 @@ static void expect_done(std::uint32_t status)
 static std::vector<std::string> flags_of(const std::string &text)
 {
     std::size_t count = 0;
-    expect_done(cfgx_predicates(text.data(), text.size(), nullptr, 0, &count));
+    expect_done(cfgx_predicates(text.data(), text.size(), nullptr, 0, &count, nullptr));
     std::vector<cfgx_predicate> predicates(count);
-    expect_done(cfgx_predicates(text.data(), text.size(), predicates.data(), count, &count));
+    expect_done(cfgx_predicates(text.data(), text.size(), predicates.data(), count, &count,
+                                nullptr));
     std::vector<std::string> flags;
     for (const cfgx_predicate &predicate : predicates) {
         flags.push_back(text.substr(predicate.key_start, predicate.key_end - predicate.key_start));
@@ -48,10 +49,10 @@ int main()
     std::vector<std::uint8_t> fillings(2 * answers.size());
     std::size_t needed = 0;
     std::uint8_t value = CFGX_VALUE_FALSE;
-    expect_done(cfgx_value("true", 4, nullptr, 0, &value));
+    expect_done(cfgx_value("true", 4, nullptr, 0, &value, nullptr));
     std::cout << int(value) << ' ';
     expect_done(cfgx_decide(text.data(), text.size(), answers.data(), answers.size(),
-                            fillings.data(), fillings.size(), &needed, &value));
+                            fillings.data(), fillings.size(), &needed, &value, nullptr));
     std::cout << int(value) << ' ';
     print_numbers(fillings);
     std::cout << (cfgx_version() == CFGX_VERSION ? "\n" : " another version\n");

@@ -16,14 +16,15 @@ FOLDER = os.path.dirname(os.path.abspath(__file__))
 DATA = os.path.join(FOLDER, "..", "..", "cfgx_vectors", "data")
 sys.path.insert(0, os.path.join(FOLDER, "..", "examples"))
 
-from cfgx import Cfgx, CfgxError  # noqa: E402
-from conditions import Condition  # noqa: E402
+from cfgx import TOKENS, Cfgx, CfgxError  # noqa: E402
+from conditions import Condition, stripped, tokens_of  # noqa: E402
 
 # The files in which each check that is used here has a table.
 TABLES = {
     "fault": {"faults.txt", "neighbours.txt", "predicates.txt", "tokens.txt"},
     "fault in the stripped text": {"stripping.txt"},
     "fillings": {"values.txt"},
+    "items": {"tokens.txt"},
     "pick": {"long.txt", "pick.txt"},
     "predicates": {"grammar.txt", "order.txt", "predicates.txt", "tokens.txt"},
     "run": {"eval.txt", "parse.txt", "target.txt", "usage.txt"},
@@ -122,11 +123,6 @@ def rows_of(*checks):
     return [fields for _, _, rows in found for fields in rows]
 
 
-def offset_of(text):
-    """Returns where the stripped text begins."""
-    return 4 if text.startswith(b"cfg(") and text.endswith(b")") else 0
-
-
 def fault_of(text, fault):
     """Returns the fields of the fault that a row names."""
     reason, start, end = re.fullmatch(r"(.*) at (\d+)\.\.(\d+)", fault).groups()
@@ -134,7 +130,7 @@ def fault_of(text, fault):
     members = re.search(r"\((\d+)\)", reason)
     name = "Unexpected" if terms else re.match(r"\w+", reason)[0]
     return (
-        offset_of(text), int(start), int(end), int(members[1]) if members else 0,
+        0, stripped(text)[0], int(start), int(end), int(members[1]) if members else 0,
         REASONS.index(name), TERMS.index(terms[1]) if terms else 0,
     )
 
@@ -271,6 +267,40 @@ def check_audit(cfgx):
         yield (text, flags), PRINTED[cfgx.audit([text], [flags])[0][0]], output
 
 
+def token_in(item, offset):
+    """Returns the kind and the span in the text of a token that an item names."""
+    name, start, end = re.fullmatch(r"(\w+)(?:\(.*\))? at (\d+)\.\.(\d+), \d+ left", item).groups()
+    name = re.sub(r"(?<=[a-z])(?=[A-Z])", "_", name).lower()
+    return TOKENS.index(name), offset + int(start), offset + int(end)
+
+
+def rows_of_items():
+    """Yields the text of each row of items, its tokens, its offset and its fault, which is the last
+    item."""
+    for text, _, *items in rows_of("items"):
+        text, fault = unescaped(text), None
+        if items and items[-1].startswith(("U[", "UnclosedQuotes")):
+            fault = fault_of(text, items.pop().rsplit(" in ", 1)[0])
+        offset, _ = stripped(text)
+        yield text, ([token_in(item, offset) for item in items], offset, fault)
+
+
+def all_texts():
+    """Yields each text of the tables, alone and in `cfg( )`."""
+    texts = [unescaped(row[0]) for row in rows_of("fault", "fault in the stripped text")]
+    for text in texts + accepted_texts() + [text for text, _, _ in rust_crate()]:
+        yield from (text, b"cfg(" + text + b")")
+
+
+def check_tokens(cfgx):
+    """Compares the tokens with the items of the rows, and those of all texts with what
+    conditions.py finds."""
+    rows = list(rows_of_items()) + [(text, tokens_of(text)) for text in all_texts()]
+    for text, wanted in rows:
+        tokens, offset, fault = cfgx.tokens(text)
+        yield text, ([fields_of(token) for token in tokens], offset, fields_of(fault)), wanted
+
+
 def check_run(cfgx):
     """Compares the runs of the program."""
     for status, output, *words in rows_of("run"):
@@ -304,6 +334,7 @@ CHECKS = {
     "apply": check_apply,
     "answers": check_answers,
     "audit": check_audit,
+    "tokens": check_tokens,
     "run": check_run,
 }
 

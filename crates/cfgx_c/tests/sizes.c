@@ -19,8 +19,8 @@ static const size_t larger[] = {3000, 4095, 4096, 4097, 9999, 10000, 65535, 6553
 struct shape {
     const char *name;
     const char *start, *piece, *middle, *closing, *end;
-    /* the numbers of predicates and of steps: so many for each piece, and so many more */
-    size_t predicates_each, predicates_more, steps_each, steps_more;
+    /* the numbers of predicates, steps and tokens: so many for each piece, and so many more */
+    size_t predicates_each, predicates_more, steps_each, steps_more, tokens_each, tokens_more;
     /* The value is that of `any` or `all` over the answers, each of which may be negated, and is
      * then negated once for each piece. */
     int is_any, negates_answers, negates_pieces;
@@ -29,18 +29,19 @@ struct shape {
 };
 
 static const struct shape shapes[] = {
-    {"members of all", "all(", "a,", "", "", ")", 1, 0, 1, 1, 0, 0, 0, "a"},
-    {"members of any", "any(", "a,", "", "", ")", 1, 0, 1, 1, 1, 0, 0, "a"},
-    {"members that are functions", "any(", "not(a),", "", "", ")", 1, 0, 2, 1, 1, 1, 0, "a"},
-    {"members that are lists", "all(", "any(a),", "", "", ")", 1, 0, 2, 1, 0, 0, 0, "a"},
-    {"members that are literals", "all(", "true,", "", "", ")", 0, 0, 1, 1, 0, 0, 0, "a"},
-    {"members with a value", "all(", "k=\"v\",", "", "", ")", 1, 0, 1, 1, 0, 0, 0, "k = \"v\""},
-    {"the depth of not", "", "not(", "a", ")", "", 0, 1, 1, 1, 0, 0, 1, "a"},
-    {"the depth of lists", "", "all(", "a", ")", "", 0, 1, 1, 1, 0, 0, 0, "a"},
-    {"the depth of lists with members", "", "all(a,", "a", ")", "", 1, 1, 2, 1, 0, 0, 0, "a"},
-    {"bytes of a key", "k", "k", "", "", "", 0, 1, 0, 1, 0, 0, 0, NULL},
-    {"bytes of a value", "k = \"", "v", "\"", "", "", 0, 1, 0, 1, 0, 0, 0, NULL},
-    {"blanks", "", " ", "a", "", "", 0, 1, 0, 1, 0, 0, 0, "a"},
+    {"members of all", "all(", "a,", "", "", ")", 1, 0, 1, 1, 2, 3, 0, 0, 0, "a"},
+    {"members of any", "any(", "a,", "", "", ")", 1, 0, 1, 1, 2, 3, 1, 0, 0, "a"},
+    {"members that are functions", "any(", "not(a),", "", "", ")", 1, 0, 2, 1, 5, 3, 1, 1, 0, "a"},
+    {"members that are lists", "all(", "any(a),", "", "", ")", 1, 0, 2, 1, 5, 3, 0, 0, 0, "a"},
+    {"members that are literals", "all(", "true,", "", "", ")", 0, 0, 1, 1, 2, 3, 0, 0, 0, "a"},
+    {"members with a value", "all(", "k=\"v\",", "", "", ")",
+     1, 0, 1, 1, 4, 3, 0, 0, 0, "k = \"v\""},
+    {"the depth of not", "", "not(", "a", ")", "", 0, 1, 1, 1, 3, 1, 0, 0, 1, "a"},
+    {"the depth of lists", "", "all(", "a", ")", "", 0, 1, 1, 1, 3, 1, 0, 0, 0, "a"},
+    {"the depth of lists with members", "", "all(a,", "a", ")", "", 1, 1, 2, 1, 5, 1, 0, 0, 0, "a"},
+    {"bytes of a key", "k", "k", "", "", "", 0, 1, 0, 1, 0, 1, 0, 0, 0, NULL},
+    {"bytes of a value", "k = \"", "v", "\"", "", "", 0, 1, 0, 1, 0, 3, 0, 0, 0, NULL},
+    {"blanks", "", " ", "a", "", "", 0, 1, 0, 1, 0, 1, 0, 0, 0, "a"},
 };
 
 /* What the tests make and pass: a condition, texts with their ends, and answers. */
@@ -96,8 +97,35 @@ struct condition {
     size_t length;
     size_t predicate_count;
     size_t step_count;
+    size_t token_count;
     struct text fact;
 };
+
+/* Returns how many of the tokens stand in order, with only blanks between them. */
+static size_t count_in_order(const struct cfgx_token *tokens, size_t count)
+{
+    size_t end = 0, i = 0;
+    while (i < count && tokens[i].start == end + strspn(text + end, " ")
+           && tokens[i].start < tokens[i].end) {
+        end = tokens[i++].end;
+    }
+    return i;
+}
+
+static void test_tokens(const struct condition *condition)
+{
+    size_t count = condition->token_count, needed = 12345, offset = 12345;
+    struct buffer buffer = make_buffer(&TOKENS, count);
+    const struct cfgx_token *tokens = (const struct cfgx_token *)buffer.bytes;
+    uint32_t status = cfgx_tokens(text, condition->length, (struct cfgx_token *)buffer.bytes, count,
+                                  &needed, &offset, NULL);
+    expect_number("the status of cfgx_tokens", status, CFGX_STATUS_DONE);
+    expect_number("the number of tokens", needed, count);
+    expect_number("the offset", offset, 0);
+    expect_number("the tokens in order", count_in_order(tokens, count), count);
+    expect_number("the end of the last token", tokens[count - 1].end, condition->length);
+    free_block(buffer.bytes);
+}
 
 /* The calls that take no answers. */
 static void test_reading(const struct condition *condition)
@@ -106,14 +134,15 @@ static void test_reading(const struct condition *condition)
     struct buffer predicates = make_buffer(&PREDICATES, count);
     struct cfgx_fault fault;
     expect_number("the status of cfgx_check", cfgx_check(text, length, &fault), CFGX_STATUS_DONE);
-    expect_number("the status of cfgx_explain", cfgx_explain(text, length, NULL, 0, &needed),
+    expect_number("the status of cfgx_explain", cfgx_explain(text, length, NULL, 0, &needed, NULL),
                   CFGX_STATUS_DONE);
     expect_number("the bytes of its message", needed, 0);
     uint32_t status = cfgx_predicates(text, length, (struct cfgx_predicate *)predicates.bytes,
-                                      count, &needed);
+                                      count, &needed, NULL);
     expect_number("the status of cfgx_predicates", status, CFGX_STATUS_DONE);
     expect_number("the number of predicates", needed, count);
     free_block(predicates.bytes);
+    test_tokens(condition);
 }
 
 /* Tests that a filling keeps the known answers, and leads to a value. */
@@ -134,7 +163,7 @@ static void test_decide(const struct condition *condition, uint8_t value)
     size_t count = condition->predicate_count, needed = 12345;
     uint8_t found = 77, *fillings = make_buffer(&BYTES, 2 * count).bytes;
     uint32_t status = cfgx_decide(text, condition->length, answers, count, fillings, 2 * count,
-                                  &needed, &found);
+                                  &needed, &found, NULL);
     expect_number("the status of cfgx_decide", status, CFGX_STATUS_DONE);
     expect_number("its value", found, value);
     expect_number("the bytes of its fillings", needed,
@@ -154,7 +183,7 @@ static void test_answered(const struct condition *condition, const struct cfgx_s
     uint8_t found = 77;
     memset(answers, answer, count);
     uint8_t value = value_of(condition->shape, condition->size, answers, count);
-    uint32_t status = cfgx_value(text, condition->length, answers, count, &found);
+    uint32_t status = cfgx_value(text, condition->length, answers, count, &found, NULL);
     expect_number("the status of cfgx_value", status, CFGX_STATUS_DONE);
     expect_number("its value", found, value);
     found = 77;
@@ -172,7 +201,7 @@ static void test_compile(const struct condition *condition)
     uint32_t status = cfgx_compile(text, condition->length, (struct cfgx_step *)steps.bytes,
                                    condition->step_count, &needed,
                                    (struct cfgx_predicate *)predicates.bytes, count,
-                                   &predicates_needed);
+                                   &predicates_needed, NULL);
     expect_number("the status of cfgx_compile", status, CFGX_STATUS_DONE);
     expect_number("the number of steps", needed, condition->step_count);
     expect_number("the number of predicates", predicates_needed, count);
@@ -193,18 +222,18 @@ static uint8_t value_over(const struct condition *condition, uint8_t answer)
 /* The calls that take facts: one that answers all predicates, or none. */
 static void test_facts(const struct condition *condition, size_t fact_count)
 {
-    size_t count = condition->predicate_count, needed = 12345, place = 54321;
+    size_t count = condition->predicate_count, needed = 12345;
     size_t length = fact_count * condition->fact.length;
     struct buffer found = make_buffer(&BYTES, count), found_value = make_buffer(&BYTES, 1);
     uint8_t value = value_over(condition, fact_count > 0 ? CFGX_VALUE_TRUE : CFGX_VALUE_UNKNOWN);
     uint32_t status = cfgx_answers(text, condition->length, condition->fact.bytes, length, &length,
-                                   fact_count, 1, found.bytes, count, &needed);
+                                   fact_count, 1, found.bytes, count, &needed, NULL);
     expect_number("the status of cfgx_answers", status, CFGX_STATUS_DONE);
     expect_number("the number of answers", needed, count);
     expect_filled(found, answers, count);
     status = cfgx_audit(text, condition->length, &condition->length, 1, condition->fact.bytes,
                         length, &length, fact_count, &fact_count, 1, 1, found_value.bytes, 1,
-                        &needed, &place);
+                        &needed, NULL);
     expect_number("the status of cfgx_audit", status, CFGX_STATUS_DONE);
     expect_number("the number of values", needed, 1);
     expect_filled(found_value, &value, 1);
@@ -259,6 +288,7 @@ static void test_shape(const struct shape *shape, size_t size)
         length,
         shape->predicates_each * size + shape->predicates_more,
         shape->steps_each * size + shape->steps_more,
+        shape->tokens_each * size + shape->tokens_more,
         {shape->fact == NULL ? text : shape->fact, shape->fact == NULL ? length : 0},
     };
     condition.fact.length += shape->fact == NULL ? 0 : strlen(shape->fact);
@@ -274,17 +304,17 @@ static void test_fault(size_t size)
 {
     char *end = repeat(repeat(repeat(text, "not(", 1), "a,", size), ")", 1);
     size_t length = (size_t)(end - text), needed = 12345;
-    struct cfgx_fault fault = {0, 0, length, size, CFGX_REASON_INVALID_NOT, 0}, found = fault;
+    struct cfgx_fault found = {0, 0, 0, 0, size + 1, 0, 0};
     uint32_t wanted_status = size == 1 ? CFGX_STATUS_DONE : CFGX_STATUS_FAULTY;
     memcpy(wanted, text, length);
     char *at = repeat(repeat(wanted + length, "\n", 1), "^", length);
     at += sprintf(at, " not() takes 1 predicate, found %zu", size);
     size_t wanted_length = size == 1 ? 0 : (size_t)(at - wanted);
     struct buffer message = make_buffer(&BYTES, wanted_length);
-    found.members = size + 1;
     expect_number("the status of cfgx_check", cfgx_check(text, length, &found), wanted_status);
-    expect_number("the members at fault", found.members, size + (size == 1));
-    uint32_t status = cfgx_explain(text, length, (char *)message.bytes, wanted_length, &needed);
+    expect_number("the members at fault", found.members, size == 1 ? 0 : size);
+    uint32_t status = cfgx_explain(text, length, (char *)message.bytes, wanted_length, &needed,
+                                   NULL);
     expect_number("the status of cfgx_explain", status, wanted_status);
     expect_number("the bytes of its message", needed, wanted_length);
     expect_filled(message, wanted, wanted_length);
@@ -298,10 +328,11 @@ static void test_miscounted(size_t size)
     uint8_t value = 77;
     size_t needed = 12345;
     memset(answers, CFGX_VALUE_TRUE, size);
-    expect_number("the status of cfgx_value", cfgx_value("a", 1, answers, size, &value),
+    expect_number("the status of cfgx_value", cfgx_value("a", 1, answers, size, &value, NULL),
                   wanted_status);
     expect_number("the status of cfgx_decide",
-                  cfgx_decide("a", 1, answers, size, NULL, 0, &needed, &value), wanted_status);
+                  cfgx_decide("a", 1, answers, size, NULL, 0, &needed, &value, NULL),
+                  wanted_status);
     expect_number("the status of cfgx_apply", cfgx_apply(&ask, 1, answers, size, &value),
                   wanted_status);
 }
@@ -311,7 +342,7 @@ static void test_many_facts(size_t size)
 {
     const uint8_t found_answers[] = {size > 0, size > 1, 0};
     const char *condition = "all(a, b, not(c))";
-    size_t length = strlen(condition), needed = 12345, place = 54321;
+    size_t length = strlen(condition), needed = 12345;
     struct buffer found = make_buffer(&BYTES, 3), value = make_buffer(&BYTES, 1);
     for (size_t i = 0; i < size; i++) {
         texts[i] = i + 1 < size ? 'b' : 'a';
@@ -320,11 +351,11 @@ static void test_many_facts(size_t size)
     /* The functions of a list are asked first. */
     const uint8_t wanted_answers[] = {found_answers[2], found_answers[0], found_answers[1]};
     uint32_t status = cfgx_answers(condition, length, texts, size, ends, size, 0, found.bytes, 3,
-                                   &needed);
+                                   &needed, NULL);
     expect_number("the status of cfgx_answers", status, CFGX_STATUS_DONE);
     expect_filled(found, wanted_answers, 3);
     status = cfgx_audit(condition, length, &length, 1, texts, size, ends, size, &size, 1, 0,
-                        value.bytes, 1, &needed, &place);
+                        value.bytes, 1, &needed, NULL);
     expect_number("the status of cfgx_audit", status, CFGX_STATUS_DONE);
     expect_filled(value, &found_answers[1], 1);
 }
@@ -333,14 +364,14 @@ static void test_many_facts(size_t size)
 static void test_targets(size_t size)
 {
     struct buffer found = make_buffer(&BYTES, size);
-    size_t needed = 12345, place = 54321, one = 1;
+    size_t needed = 12345, one = 1;
     for (size_t i = 0; i < size; i++) {
         texts[i] = "ab"[i % 2];
         ends[i] = target_ends[i] = i + 1;
         values[i] = i % 2 == 0;
     }
     uint32_t status = cfgx_audit("a", 1, &one, 1, texts, size, ends, size, target_ends, size, 0,
-                                 found.bytes, size, &needed, &place);
+                                 found.bytes, size, &needed, NULL);
     expect_number("the status of cfgx_audit", status, CFGX_STATUS_DONE);
     expect_number("the number of values", needed, size);
     expect_filled(found, values, size);
@@ -350,14 +381,14 @@ static void test_targets(size_t size)
 static void test_texts(size_t size)
 {
     struct buffer found = make_buffer(&BYTES, size);
-    size_t needed = 12345, place = 54321, one = 1;
+    size_t needed = 12345, one = 1;
     for (size_t i = 0; i < size; i++) {
         texts[i] = "ab"[i % 2];
         ends[i] = i + 1;
         values[i] = i % 2 == 0;
     }
     uint32_t status = cfgx_audit(texts, size, ends, size, "a", 1, &one, 1, &one, 1, 0, found.bytes,
-                                 size, &needed, &place);
+                                 size, &needed, NULL);
     expect_number("the status of cfgx_audit", status, CFGX_STATUS_DONE);
     expect_number("the number of values", needed, size);
     expect_filled(found, values, size);

@@ -37,11 +37,13 @@ static int make_calls(struct run *run)
     const struct task *task = run->task;
     run->value = 77;
     run->needed = 0;
-    cfgx_value(task->text.bytes, task->text.length, (const uint8_t *)task->answers.bytes,
-               task->answers.length, &run->value);
-    cfgx_explain(task->faulty.bytes, task->faulty.length, (char *)run->message.bytes, ROOM,
-                 &run->needed);
-    return run->value == task->value && run->needed == task->message.length
+    uint32_t valued = cfgx_value(task->text.bytes, task->text.length,
+                                 (const uint8_t *)task->answers.bytes, task->answers.length,
+                                 &run->value, NULL);
+    uint32_t explained = cfgx_explain(task->faulty.bytes, task->faulty.length,
+                                      (char *)run->message.bytes, ROOM, &run->needed, NULL);
+    return valued == CFGX_STATUS_DONE && explained == CFGX_STATUS_FAULTY
+        && run->value == task->value && run->needed == task->message.length
         && memcmp(run->message.bytes, task->message.bytes, run->needed) == 0;
 }
 

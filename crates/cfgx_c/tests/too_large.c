@@ -27,14 +27,15 @@ int main(void)
 {
     struct text name = TEXT("2^32 texts on 2^32 targets");
     const size_t *ends = map_ends();
-    struct buffer values = make_buffer(&BYTES, 4);
-    size_t needed = 12345, place = 54321;
+    struct buffer values = make_buffer(&BYTES, 4), fault = make_buffer(&FAULTS, 1);
+    size_t needed = 12345;
     begin_row(name);
     uint32_t status = cfgx_audit(NULL, 0, ends, ENDS, NULL, 0, NULL, 0, ends, ENDS, 0,
-                                 values.bytes, values.room, &needed, &place);
+                                 values.bytes, values.room, &needed,
+                                 (struct cfgx_fault *)fault.bytes);
     expect_number("the status", status, CFGX_STATUS_TOO_LARGE);
     expect_number("the number of values", needed, 0);
-    expect_number("the place", place, 54321);
     expect_filled(values, NULL, 0);
+    expect_fault(fault, NULL, status);
     return finish("too many values", 0);
 }

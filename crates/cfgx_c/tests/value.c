@@ -7,12 +7,13 @@ struct row {
     struct text answers;
     uint32_t status;
     uint8_t value;
+    struct cfgx_fault fault;
 };
 
 #define VALUE(literal, answers, value)                                                             \
-    {TEXT(literal), TEXT(answers), CFGX_STATUS_DONE, CFGX_VALUE_##value}
-#define NO_VALUE(literal, answers, status)                                                         \
-    {TEXT(literal), TEXT(answers), CFGX_STATUS_##status, 0}
+    {TEXT(literal), TEXT(answers), CFGX_STATUS_DONE, CFGX_VALUE_##value, NO_FAULT}
+#define NO_VALUE(literal, answers, status, fault)                                                  \
+    {TEXT(literal), TEXT(answers), CFGX_STATUS_##status, 0, fault}
 
 static const struct row rows[] = {
     VALUE("all(unix, feature = \"x\")", "\1\1", TRUE),
@@ -40,14 +41,16 @@ static const struct row rows[] = {
     VALUE("any()", "", FALSE),
     VALUE("key = \"a\0\xc3\xa9\"", "\1", TRUE),
 
-    NO_VALUE("all(a, b)", "", MISCOUNTED),
-    NO_VALUE("all(a, b)", "\1", MISCOUNTED),
-    NO_VALUE("all(a, b)", "\1\1\1", MISCOUNTED),
-    NO_VALUE("true", "\1", MISCOUNTED),
-    NO_VALUE("all(a, b", "\1\1", FAULTY),
-    NO_VALUE("", "", FAULTY),
-    NO_VALUE("unix\0unix", "\1\1", FAULTY),
-    NO_VALUE("a = \"\xff\"", "\1", NOT_UTF8),
+    NO_VALUE("all(a, b)", "", MISCOUNTED, NO_FAULT),
+    NO_VALUE("all(a, b)", "\1", MISCOUNTED, NO_FAULT),
+    NO_VALUE("all(a, b)", "\1\1\1", MISCOUNTED, NO_FAULT),
+    NO_VALUE("true", "\1", MISCOUNTED, NO_FAULT),
+    NO_VALUE("all(a, b", "\1\1", FAULTY, FAULT(0, 0, 3, 8, UNCLOSED_PARENS)),
+    NO_VALUE("", "", FAULTY, FAULT(0, 0, 0, 0, EMPTY)),
+    NO_VALUE("unix\0unix", "\1\1", FAULTY, TERMS(0, 0, 4, 5, START)),
+    NO_VALUE("cfg(not())", "", FAULTY, MEMBERS(0, 4, 0, 5, 0)),
+    NO_VALUE("a = \"\xff\"", "\1", NOT_UTF8, BYTE(0, 5)),
+    NO_VALUE("all(a, \xc3\xa9\xff", "\1\1", NOT_UTF8, BYTE(0, 9)),
 };
 
 static void call(const void *item, size_t room, uint32_t status)
@@ -55,13 +58,15 @@ static void call(const void *item, size_t room, uint32_t status)
     const struct row *row = item;
     char *text = block_of(row->text);
     uint8_t *answers = block_of(row->answers);
-    struct buffer value = make_buffer(&BYTES, 1);
-    uint32_t found = cfgx_value(text, row->text.length, answers, row->answers.length, value.bytes);
+    struct buffer value = make_buffer(&BYTES, 1), fault = make_buffer(&FAULTS, 1);
+    uint32_t found = cfgx_value(text, row->text.length, answers, row->answers.length, value.bytes,
+                                (struct cfgx_fault *)fault.bytes);
     (void)room;
     free_block(text);
     free_block(answers);
     expect_number("the status", found, status);
-    expect_filled(value, &row->value, status == CFGX_STATUS_DONE);
+    expect_value(value, row->value, status);
+    expect_fault(fault, &row->fault, status);
 }
 
 /* Tests that the name of the call is that of a function in the header: its address takes null
@@ -69,12 +74,16 @@ static void call(const void *item, size_t room, uint32_t status)
 static void test_name(void)
 {
     static const struct text text = TEXT("all(a, b)");
-    uint32_t (*address)(const char *, size_t, const uint8_t *, size_t, uint8_t *) = &cfgx_value;
+    uint32_t (*address)(const char *, size_t, const uint8_t *, size_t, uint8_t *,
+                        struct cfgx_fault *) = &cfgx_value;
     const char *bytes = text.bytes;
-    uint8_t value = CFGX_VALUE_UNKNOWN;
+    uint8_t value = CFGX_VALUE_FALSE;
     begin_row(text);
-    expect_number("the status of no text", address(NULL, 0, NULL, 0, &value), CFGX_STATUS_FAULTY);
-    expect_number("the status", cfgx_value(bytes++, text.length, (uint8_t[]){1, 1}, 2, &value),
+    expect_number("the status of no text", address(NULL, 0, NULL, 0, &value, NULL),
+                  CFGX_STATUS_FAULTY);
+    expect_number("the value of no text", value, CFGX_VALUE_UNKNOWN);
+    expect_number("the status",
+                  cfgx_value(bytes++, text.length, (uint8_t[]){1, 1}, 2, &value, NULL),
                   CFGX_STATUS_DONE);
     expect_number("the value", value, CFGX_VALUE_TRUE);
     expect_number("how often the text was evaluated", (size_t)(bytes - text.bytes), 1);

@@ -1,12 +1,12 @@
 /* Tests the functions of the header that stand for the calls, in C and in C++. The calls behind
  * them are stubs here, which record what they are passed: a pointer to some item in place of a null
- * pointer whose count is 0, and everything else as it was. */
+ * pointer whose count is 0 and in place of a null `fault`, and everything else as it was. */
 #include "cfgx.h"
 
 #include <stdio.h>
 #include <string.h>
 
-#define MOST 15
+#define MOST 16
 
 /* An argument: a pointer or a number. */
 struct argument {
@@ -24,42 +24,46 @@ static size_t passed_count;
 #define ENDS(place) POINTER(size_t, place), given[place + 1].number
 #define PREDICATES(place) POINTER(struct cfgx_predicate, place), given[place + 1].number
 #define STEPS(place) POINTER(struct cfgx_step, place), given[place + 1].number
+#define TOKENS(place) POINTER(struct cfgx_token, place), given[place + 1].number
 #define NEEDED(place) POINTER(size_t, place)
+#define FAULT(place) POINTER(struct cfgx_fault, place)
 #define BYTE(place) (uint8_t)given[place].number
 
 static uint32_t pass_check(void)
 {
-    return cfgx_check(TEXT(0), POINTER(struct cfgx_fault, 2));
+    return cfgx_check(TEXT(0), FAULT(2));
 }
 
 static uint32_t pass_explain(void)
 {
-    return cfgx_explain(TEXT(0), TEXT(2), NEEDED(4));
+    return cfgx_explain(TEXT(0), TEXT(2), NEEDED(4), FAULT(5));
 }
 
 static uint32_t pass_predicates(void)
 {
-    return cfgx_predicates(TEXT(0), PREDICATES(2), NEEDED(4));
+    return cfgx_predicates(TEXT(0), PREDICATES(2), NEEDED(4), FAULT(5));
 }
 
 static uint32_t pass_value(void)
 {
-    return cfgx_value(TEXT(0), ANSWERS(2), POINTER(uint8_t, 4));
+    return cfgx_value(TEXT(0), ANSWERS(2), POINTER(uint8_t, 4), FAULT(5));
 }
 
 static uint32_t pass_decide(void)
 {
-    return cfgx_decide(TEXT(0), ANSWERS(2), ANSWERS(4), NEEDED(6), POINTER(uint8_t, 7));
+    return cfgx_decide(TEXT(0), ANSWERS(2), ANSWERS(4), NEEDED(6), POINTER(uint8_t, 7),
+                       FAULT(8));
 }
 
 static uint32_t pass_answers(void)
 {
-    return cfgx_answers(TEXT(0), TEXT(2), ENDS(4), BYTE(6), ANSWERS(7), NEEDED(9));
+    return cfgx_answers(TEXT(0), TEXT(2), ENDS(4), BYTE(6), ANSWERS(7), NEEDED(9),
+                        FAULT(10));
 }
 
 static uint32_t pass_compile(void)
 {
-    return cfgx_compile(TEXT(0), STEPS(2), NEEDED(4), PREDICATES(5), NEEDED(7));
+    return cfgx_compile(TEXT(0), STEPS(2), NEEDED(4), PREDICATES(5), NEEDED(7), FAULT(8));
 }
 
 static uint32_t pass_apply(void)
@@ -70,7 +74,12 @@ static uint32_t pass_apply(void)
 static uint32_t pass_audit(void)
 {
     return cfgx_audit(TEXT(0), ENDS(2), TEXT(4), ENDS(6), ENDS(8), BYTE(10), ANSWERS(11),
-                      NEEDED(13), NEEDED(14));
+                      NEEDED(13), FAULT(14));
+}
+
+static uint32_t pass_tokens(void)
+{
+    return cfgx_tokens(TEXT(0), TOKENS(2), NEEDED(4), POINTER(size_t, 5), FAULT(6));
 }
 
 static uint32_t pass_run(void)
@@ -79,21 +88,22 @@ static uint32_t pass_run(void)
 }
 
 /* A function of the header, and what each of its arguments is: `c` a pointer with its count behind
- * it, `p` another pointer, and `b` a byte. */
+ * it, `f` one to a fault, `p` another pointer, and `b` a byte. */
 static const struct function {
     const char *name;
     uint32_t (*pass)(void);
     const char *arguments;
 } functions[] = {
-    {"check", pass_check, "cp"},
-    {"explain", pass_explain, "ccp"},
-    {"predicates", pass_predicates, "ccp"},
-    {"value", pass_value, "ccp"},
-    {"decide", pass_decide, "cccpp"},
-    {"answers", pass_answers, "cccbcp"},
-    {"compile", pass_compile, "ccpcp"},
+    {"check", pass_check, "cf"},
+    {"explain", pass_explain, "ccpf"},
+    {"predicates", pass_predicates, "ccpf"},
+    {"value", pass_value, "ccpf"},
+    {"decide", pass_decide, "cccppf"},
+    {"answers", pass_answers, "cccbcpf"},
+    {"compile", pass_compile, "ccpcpf"},
     {"apply", pass_apply, "ccp"},
-    {"audit", pass_audit, "cccccbcpp"},
+    {"audit", pass_audit, "cccccbcpf"},
+    {"tokens", pass_tokens, "ccppf"},
     {"run", pass_run, "ccccp"},
 };
 
@@ -119,6 +129,7 @@ static uint32_t record(const struct argument *arguments, size_t count)
 #undef cfgx_compile
 #undef cfgx_apply
 #undef cfgx_audit
+#undef cfgx_tokens
 #undef cfgx_run
 
 #define RECORD(...)                                                                                \
@@ -133,45 +144,45 @@ uint32_t cfgx_check(const char *text, size_t text_length, struct cfgx_fault *fau
 }
 
 uint32_t cfgx_explain(const char *text, size_t text_length, char *message, size_t room,
-                      size_t *needed)
+                      size_t *needed, struct cfgx_fault *fault)
 {
-    RECORD(P(text), N(text_length), P(message), N(room), P(needed));
+    RECORD(P(text), N(text_length), P(message), N(room), P(needed), P(fault));
 }
 
 uint32_t cfgx_predicates(const char *text, size_t text_length, struct cfgx_predicate *predicates,
-                         size_t room, size_t *needed)
+                         size_t room, size_t *needed, struct cfgx_fault *fault)
 {
-    RECORD(P(text), N(text_length), P(predicates), N(room), P(needed));
+    RECORD(P(text), N(text_length), P(predicates), N(room), P(needed), P(fault));
 }
 
 uint32_t cfgx_value(const char *text, size_t text_length, const uint8_t *answers,
-                    size_t answer_count, uint8_t *value)
+                    size_t answer_count, uint8_t *value, struct cfgx_fault *fault)
 {
-    RECORD(P(text), N(text_length), P(answers), N(answer_count), P(value));
+    RECORD(P(text), N(text_length), P(answers), N(answer_count), P(value), P(fault));
 }
 
 uint32_t cfgx_decide(const char *text, size_t text_length, const uint8_t *answers,
                      size_t answer_count, uint8_t *fillings, size_t room, size_t *needed,
-                     uint8_t *value)
+                     uint8_t *value, struct cfgx_fault *fault)
 {
     RECORD(P(text), N(text_length), P(answers), N(answer_count), P(fillings), N(room), P(needed),
-           P(value));
+           P(value), P(fault));
 }
 
 uint32_t cfgx_answers(const char *text, size_t text_length, const char *facts, size_t facts_length,
                       const size_t *fact_ends, size_t fact_count, uint8_t otherwise,
-                      uint8_t *answers, size_t room, size_t *needed)
+                      uint8_t *answers, size_t room, size_t *needed, struct cfgx_fault *fault)
 {
     RECORD(P(text), N(text_length), P(facts), N(facts_length), P(fact_ends), N(fact_count),
-           N(otherwise), P(answers), N(room), P(needed));
+           N(otherwise), P(answers), N(room), P(needed), P(fault));
 }
 
 uint32_t cfgx_compile(const char *text, size_t text_length, struct cfgx_step *steps,
                       size_t step_room, size_t *steps_needed, struct cfgx_predicate *predicates,
-                      size_t predicate_room, size_t *predicates_needed)
+                      size_t predicate_room, size_t *predicates_needed, struct cfgx_fault *fault)
 {
     RECORD(P(text), N(text_length), P(steps), N(step_room), P(steps_needed), P(predicates),
-           N(predicate_room), P(predicates_needed));
+           N(predicate_room), P(predicates_needed), P(fault));
 }
 
 uint32_t cfgx_apply(const struct cfgx_step *steps, size_t step_count, const uint8_t *answers,
@@ -184,11 +195,17 @@ uint32_t cfgx_audit(const char *texts, size_t texts_length, const size_t *text_e
                     size_t text_count, const char *facts, size_t facts_length,
                     const size_t *fact_ends, size_t fact_count, const size_t *target_ends,
                     size_t target_count, uint8_t otherwise, uint8_t *values, size_t room,
-                    size_t *needed, size_t *place)
+                    size_t *needed, struct cfgx_fault *fault)
 {
     RECORD(P(texts), N(texts_length), P(text_ends), N(text_count), P(facts), N(facts_length),
            P(fact_ends), N(fact_count), P(target_ends), N(target_count), N(otherwise), P(values),
-           N(room), P(needed), P(place));
+           N(room), P(needed), P(fault));
+}
+
+uint32_t cfgx_tokens(const char *text, size_t text_length, struct cfgx_token *tokens, size_t room,
+                     size_t *needed, size_t *offset, struct cfgx_fault *fault)
+{
+    RECORD(P(text), N(text_length), P(tokens), N(room), P(needed), P(offset), P(fault));
 }
 
 uint32_t cfgx_run(const char *words, size_t words_length, const size_t *word_ends,
@@ -200,8 +217,11 @@ uint32_t cfgx_run(const char *words, size_t words_length, const size_t *word_end
 }
 
 /* The kinds of a pointer with its count: null or not, with no item, one, or more than 32 bits can
- * count. */
-#define KINDS 6
+ * count. A pointer to a fault is null or not. */
+static size_t kinds_of(char argument)
+{
+    return argument == 'c' ? 6 : argument == 'f' ? 2 : 1;
+}
 
 /* What the pointers that are not null point to. No function reads it. */
 static struct cfgx_predicate items[MOST];
@@ -210,7 +230,7 @@ static struct cfgx_predicate items[MOST];
 static size_t give(char argument, size_t place, size_t kind)
 {
     const size_t counts[] = {0, 1, ((size_t)1 << 40) + place};
-    given[place].pointer = argument == 'b' || (argument == 'c' && kind % 2) ? NULL : &items[place];
+    given[place].pointer = argument == 'b' || kind % 2 ? NULL : &items[place];
     given[place].number = argument == 'b' ? 200 + kind : 0;
     if (argument != 'c') {
         return 1;
@@ -220,24 +240,23 @@ static size_t give(char argument, size_t place, size_t kind)
     return 2;
 }
 
-/* Sets the arguments of a function. The digits of `kinds`, in the base KINDS, are their kinds.
- * Returns the number of arguments. */
+/* Sets the arguments of a function, whose kinds `kinds` counts. Returns the number of arguments. */
 static size_t give_all(const char *arguments, size_t kinds)
 {
     size_t place = 0;
     for (; *arguments != 0; arguments++) {
-        place += give(*arguments, place, kinds % KINDS);
-        kinds /= *arguments == 'c' ? KINDS : 1;
+        place += give(*arguments, place, kinds % kinds_of(*arguments));
+        kinds /= kinds_of(*arguments);
     }
     return place;
 }
 
 /* Returns the number of kinds of all arguments. */
-static size_t kinds_of(const char *arguments)
+static size_t all_kinds_of(const char *arguments)
 {
     size_t kinds = 1;
     for (; *arguments != 0; arguments++) {
-        kinds *= *arguments == 'c' ? KINDS : 1;
+        kinds *= kinds_of(*arguments);
     }
     return kinds;
 }
@@ -245,7 +264,8 @@ static size_t kinds_of(const char *arguments)
 /* Returns whether an argument was passed on as it has to be. */
 static int is_right(char argument, size_t place)
 {
-    int is_none = argument == 'c' && given[place].pointer == NULL && given[place + 1].number == 0;
+    int is_empty = argument == 'c' && given[place + 1].number == 0;
+    int is_none = (is_empty || argument == 'f') && given[place].pointer == NULL;
     int is_same = passed[place].pointer == given[place].pointer;
     int is_passed = is_none ? passed[place].pointer != NULL : is_same;
     int is_counted = argument != 'c' || passed[place + 1].number == given[place + 1].number;
@@ -267,7 +287,7 @@ static size_t count_wrong(const char *arguments)
 static size_t test_function(const struct function *function)
 {
     size_t failures = 0;
-    for (size_t kinds = 0; kinds < kinds_of(function->arguments); kinds++) {
+    for (size_t kinds = 0; kinds < all_kinds_of(function->arguments); kinds++) {
         size_t count = give_all(function->arguments, kinds);
         status = (uint32_t)(kinds % 10);
         uint32_t found = function->pass();
@@ -277,7 +297,7 @@ static size_t test_function(const struct function *function)
     }
     if (failures > 0) {
         printf("FAILED: cfgx_%s does not pass on %zu of %zu lists of arguments\n", function->name,
-               failures, kinds_of(function->arguments));
+               failures, all_kinds_of(function->arguments));
     }
     return failures;
 }

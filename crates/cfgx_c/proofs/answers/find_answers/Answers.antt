@@ -1,24 +1,51 @@
+-- The facts are read first, and then the text.
+use Rattle.std.proofs.lemmas.Result.{err_from_is_err_and}
 use Rattle.cfgx_c.specs.Ends.{parts}
+use Rattle.cfgx_c.specs.Status.{faulty_fact}
 use Rattle.cfgx_c.proofs.AnswerLemmas.{AnswersBy-read}
-use Rattle.cfgx_c.proofs.InputLemmas.{RefusesWith-facts}
+use Rattle.cfgx_c.proofs.RefusalLemmas.{IsAbout-weaker, IsFirst-all, Refuses-read, Refuses-text}
+use Rattle.cfgx_c.proofs.RefusalLemmas.{all_facts}
 use Rattle.cfgx_c.proofs.answers.find_answers.Goals as goal
+
+-- a fact is faulty
+pub returns-in_err-facts-2-clause-err : goal.returns-in_err-facts-2-clause-err
+returns-in_err-facts-2-clause-err c =
+    let p = err_from_is_err_and
+    c.from_residual-in_err-facts-2.result c.from_residual-in_err-facts-2.ensures.1 in
+    let facts = c.in_ok-facts.ensures.ok in
+    let about = rw (c.as_slice.ensures.value, facts.0) at c.in_err-facts-2.ensures.err in
+    rw (p.1, p.2) (Refuses-read _ _ _ facts.1
+    (IsAbout-weaker faulty_fact _ _ _ (IsFirst-all _) about))
+
+-- the text is not UTF-8
+pub returns-in_err-read_text-clause-err : goal.returns-in_err-read_text-clause-err
+returns-in_err-read_text-clause-err c =
+    let p = err_from_is_err_and
+    c.from_residual-in_err-read_text.result c.from_residual-in_err-read_text.ensures.1 in
+    let facts = c.in_ok-facts.ensures.ok in
+    let read = rw (c.as_slice.ensures.value, facts.0) at c.in_ok-facts-2.ensures.ok in
+    rw (p.1, p.2) (Refuses-text _ c.args.text.now _ (all_facts _ facts.1 read.0)
+    c.in_err-read_text.ensures.err)
+
+-- the text is faulty
+pub returns-in_err-condition-clause-err : goal.returns-in_err-condition-clause-err
+returns-in_err-condition-clause-err c =
+    let p = err_from_is_err_and
+    c.from_residual-in_err-condition.result c.from_residual-in_err-condition.ensures.1 in
+    let facts = c.in_ok-facts.ensures.ok in
+    let read = rw (c.as_slice.ensures.value, facts.0) at c.in_ok-facts-2.ensures.ok in
+    let refuses = rw c.in_ok-read_text.ensures.ok.0 at c.in_err-condition.ensures.err in
+    rw (p.1, p.2) (Refuses-text _ c.args.text.now _ (all_facts _ facts.1 read.0) refuses)
 
 pub returns-clause-ok : goal.returns-clause-ok
 returns-clause-ok c =
-    let condition = rw c.in-Ok.ensures.cases.0 at c.in_ok-condition.ensures.ok in
-    let read = rw (c.as_slice.ensures.value, c.in-Ok-parts.ensures) at
-    c.in-Ok-read_facts.ensures.ok in (
-      (c.in-Ok.ensures.cases.1, condition.1),
-      read.0,
+    let facts = c.in_ok-facts.ensures.ok in
+    let read = rw (c.as_slice.ensures.value, facts.0) at c.in_ok-facts-2.ensures.ok in
+    let text = c.in_ok-read_text.ensures.ok in
+    let condition = rw text.0 at c.in_ok-condition.ensures.ok in (
+      all_facts _ facts.1 read.0,
+      (text.1, condition.1),
       AnswersBy-read c.args.text.now _ (parts c.args.fact_ends.now c.args.facts.now) _
-          c.args.otherwise c.in-Ok-answers_to.answers.items condition.0 read.1
-          c.in-Ok-answers_to.ensures,
+          c.args.otherwise c.in_ok-answers_to.field-0.items condition.0 read.1
+          c.in_ok-answers_to.ensures,
     )
-
--- a fact is faulty
-pub returns-in-Err-clause-err : goal.returns-in-Err-clause-err
-returns-in-Err-clause-err c =
-    let condition = rw c.in-Ok.ensures.cases.0 at c.in_ok-condition.ensures.ok in
-    let fails = rw (c.as_slice.ensures.value, c.in-Ok-parts.ensures) at c.in-Err.ensures.err in
-    rw c.status.ensures (RefusesWith-facts c.args.text.now _ c.in-Err.error
-    (c.in-Ok.ensures.cases.1, condition.1) fails)

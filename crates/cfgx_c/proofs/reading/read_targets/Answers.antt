@@ -4,9 +4,10 @@ use Rattle.std.specs.List.{slice_range}
 use Rattle.std.proofs.lemmas.List.{drop_all, length-map, take_all}
 use Rattle.std.proofs.lemmas.{List.Elements.All-append, Result.err_from_is_err_and}
 use Rattle.std.proofs.lemmas.Slice.Zip.{all_zipped_more}
-use Rattle.cfgx_c.specs.{Faults.IsFact, internal.Reading.views}
+use Rattle.cfgx_engine.specs.Facts.{IsRustcFact}
+use Rattle.cfgx_c.specs.internal.Refusals.{views}
 use Rattle.cfgx_c.proofs.EndsLemmas.{begin-le, next_end, next_part}
-use Rattle.cfgx_c.proofs.InputLemmas.{FailsForFacts-piece, take-range, views-range}
+use Rattle.cfgx_c.proofs.RefusalLemmas.{IsAbout-piece, take-range, views-range}
 use Rattle.cfgx_c.proofs.reading.read_targets.Goals as goal
 
 pub offset_bounds-facts-begin : goal.offset_bounds-facts-begin
@@ -34,7 +35,7 @@ returns-in_err-read-clause-err c =
     let invariant = c.loop-end.invariant in
     let next = next_end _ _ _ _ c.loop-end-test.true invariant.left_are in
     let end = begin-le _ _ _ next.1 in
-    rw (p.1, p.2) (FailsForFacts-piece (views c.args.facts.now) c.loop-end.begin _ _ next.0 end
+    rw (p.1, p.2) (IsAbout-piece (views c.args.facts.now) c.loop-end.begin _ _ next.0 end
     invariant.good (rw views-range at c.in_err-read.ensures.err))
 
 -- the facts of one target more
@@ -49,7 +50,7 @@ loop-end-preserved c =
     record {
       left_are = next.1;
       good = rw (take-range facts begin end next.0 (begin-le _ _ _ next.1))
-          (All-append IsFact (take begin facts) (slice_range facts begin end) invariant.good
+          (All-append IsRustcFact (take begin facts) (slice_range facts begin end) invariant.good
           read.0);
       groups = invariant.groups ++ slice_range facts begin end ∷ [];
       whole = next_part _ _ _ facts invariant.groups c.loop-end-test.true invariant.whole

@@ -1,0 +1,74 @@
+-- The steps and the predicates are those of the text's one tree.
+use Rattle.std.proofs.Common.{◌≡◌, ◌∙◌, ap, arith, inl, inr, length, map, sym}
+use Rattle.std.proofs.lemmas.List.{length-map}
+use Rattle.cfgx_grammar.proofs.Answering.{only_tree}
+use Rattle.cfgx_syntax.specs.Stripping.{strip_offset}
+use Rattle.cfg_expr.specs.Steps.{steps_of}
+use Rattle.cfgx_c.specs.{Predicates.c_predicate, Steps.c_step}
+use Rattle.cfgx_c.proofs.BufferLemmas.{FillsBoth-none, FillsBoth-room}
+use Rattle.cfgx_c.proofs.Described.{ListsPredicates-located}
+use Rattle.cfgx_c.proofs.compile.compile.Goals as goal
+
+pub write_predicates-requires-clause-located : goal.write_predicates-requires-clause-located
+write_predicates-requires-clause-located c =
+    rw c.in_ok-condition.ensures.ok.0 at c.located_predicates-located.ensures
+
+-- one buffer has too little room
+pub returns-then-step_count-steps-clause-ok : goal.returns-then-step_count-steps-clause-ok
+returns-then-step_count-steps-clause-ok c =
+    let text = c.in_ok-text.ensures.ok in
+    let is = c.in_ok-condition.ensures.ok.0 in
+    let predicates = c.located_predicates-located.result in
+    let located = rw (is, text.0) at c.located_predicates-located.ensures in
+    let counted = rw (is, text.0) at c.step_count-step_count.ensures.steps in
+    let show = c_predicate (strip_offset c.args.text.now) in
+    let steps = map c_step (steps_of counted.0.tree) in
+    let many : c.step_count-step_count.result ≡ length steps =
+    counted.1 ∙ sym (length-map (steps_of counted.0.tree) c_step) in
+    let count : c.left-count.result ≡ length (map show predicates) =
+    c.left-count.ensures ∙ sym (length-map predicates show) in (
+      text.1,
+      record {
+        one = counted.0;
+        predicates = map show predicates;
+        lists = ListsPredicates-located c.args.text.now predicates located;
+        fills = FillsBoth-none steps c.args.steps.now (map show predicates)
+            c.args.predicates.now (elim c.then-step_count-steps.either [
+              | inl short ↦ inl (omega (arith, short, many))
+              | inr short ↦ inr (omega (arith, short, count))
+            ]);
+        steps_needed_is = counted.1;
+        predicates_needed_is = count;
+      },
+    )
+
+-- both buffers are filled
+pub returns-clause-ok : goal.returns-clause-ok
+returns-clause-ok c =
+    let text = c.in_ok-text.ensures.ok in
+    let is = c.in_ok-condition.ensures.ok.0 in
+    let predicates = c.located_predicates-located.result in
+    let located = rw (is, text.0) at c.located_predicates-located.ensures in
+    let counted = rw (is, text.0) at c.step_count-step_count.ensures.steps in
+    let wrote = rw (is, text.0) at c.in_ok-write_steps.ensures.steps in
+    let show = c_predicate (strip_offset c.args.text.now) in
+    let steps = map c_step (steps_of wrote.0.tree) in
+    let same = counted.1 ∙ ap (λ tree. length (steps_of tree))
+    (only_tree wrote.0 counted.0.tree counted.0.reads.has) in
+    let many : c.step_count-step_count.result ≡ length steps =
+    same ∙ sym (length-map (steps_of wrote.0.tree) c_step) in
+    let count : c.left-count.result ≡ length (map show predicates) =
+    c.left-count.ensures ∙ sym (length-map predicates show) in
+    let shown = rw (text.0, ← c.left-count.ensures, count) at c.write_predicates.ensures in (
+      text.1,
+      record {
+        one = wrote.0;
+        predicates = map show predicates;
+        lists = ListsPredicates-located c.args.text.now predicates located;
+        fills = rw (wrote.1, many, shown) (FillsBoth-room steps c.args.steps.now
+            (map show predicates) c.args.predicates.now (omega (arith, many))
+            (omega (arith, count)));
+        steps_needed_is = same;
+        predicates_needed_is = count;
+      },
+    )

@@ -1,0 +1,63 @@
+-- One predicate more, and in the end all.
+use Rattle.std.proofs.Common.{◌∙◌, ◌<◌, ◌∷◌, ◌++◌, [], append-nil, append_assoc, ap}
+use Rattle.std.proofs.Common.{arith, refl}
+use Rattle.std.proofs.Common.{drop, length, map}
+use Rattle.std.proofs.lemmas.List.{length-append}
+use Rattle.cfgx_syntax.specs.Stripping.{strip}
+use Rattle.cfgx_c.specs.Predicates.{c_predicate}
+use Rattle.cfgx_c.proofs.BufferLemmas.{written_next}
+use Rattle.cfgx_c.proofs.SpanLemmas.{all_spans}
+use Rattle.cfgx_c.proofs.predicates.write_predicates.Goals as goal
+
+pub c_predicate-requires : goal.c_predicate-requires
+c_predicate-requires c =
+    let spans = rw c.in-Some.ensures.steps at c.loop-predicate.invariant.spans in (
+      strip c.args.text.now,
+      spans.0,
+      omega (arith, ap length c.strip-offset.ensures.text, c.strip-offset.ensures.stands.1),
+    )
+
+pub loop-predicate-init : goal.loop-predicate-init
+loop-predicate-init c = record {
+  front = [];
+  whole = refl;
+  count = refl;
+  shown = refl;
+  spans = rw c.into_iter-predicate-iterator.ensures.into_iter_gives
+      (all_spans (strip c.args.text.now) c.args.predicates c.requires.located);
+}
+
+pub loop-predicate-preserved : goal.loop-predicate-preserved
+loop-predicate-preserved c =
+    let so_far = c.loop-predicate.invariant in
+    let offset = c.strip-offset.result.offset in
+    let spans = rw c.in-Some.ensures.steps at so_far.spans in
+    let whole = rw c.in-Some.ensures.steps at so_far.whole in
+    let long = ap length whole in
+    let inside : c.loop-predicate.written < length c.args.buffer.now = omega (
+      arith,
+      c.requires.room,
+      ap length c.into_iter-predicate-iterator.ensures.into_iter_gives,
+      long,
+      so_far.count,
+      length-append so_far.front (c.in-Some.predicate ∷ c.next.new.self),
+    ) in
+    record {
+      front = so_far.front ++ c.in-Some.predicate ∷ [];
+      whole = append_assoc so_far.front (c.in-Some.predicate ∷ []) c.next.new.self ∙ whole;
+      count = omega (arith, so_far.count, length-append so_far.front (c.in-Some.predicate ∷ []));
+      shown = rw c.c_predicate.ensures (written_next (c_predicate offset) so_far.front
+          c.in-Some.predicate c.args.buffer.now c.loop-predicate.buffer c.loop-predicate.written
+          so_far.count inside so_far.shown);
+      spans = spans.1;
+    }
+
+pub returns : goal.returns
+returns c =
+    let so_far = c.loop-predicate.invariant in
+    let whole = rw (c.in-None.ensures.steps.0, append-nil) at so_far.whole in
+    let all = whole ∙ c.into_iter-predicate-iterator.ensures.into_iter_gives in
+    let offset = c.strip-offset.result.offset in
+    rw (← c.strip-offset.ensures.offset) (so_far.shown
+    ∙ ap (λ n. map (c_predicate offset) so_far.front ++ drop n c.args.buffer.now) so_far.count
+    ∙ ap (λ xs. map (c_predicate offset) xs ++ drop (length xs) c.args.buffer.now) all)
