@@ -1,9 +1,11 @@
 //! The values of many conditions on many targets.
 
+use crate::error::Reason;
 use crate::expr::Expression;
-use crate::ffi::{self, Texts};
+use crate::ffi::{self, Fault, Texts};
 use std::error::Error;
 use std::fmt;
+use std::ops::Range;
 
 /// What is known of a target, such as the lines of `rustc --print cfg`.
 ///
@@ -15,11 +17,12 @@ use std::fmt;
 ///
 /// let mut facts = Facts::new("unix\ntarget_os=\"linux\"\n".lines());
 /// facts.push("feature = \"x\"");
-/// facts.push("?test");
+/// facts.extend(["?test", "loom"]);
 /// assert_eq!(facts.get(1), Some("target_os=\"linux\""));
-/// assert_eq!(facts.len(), 4);
+/// assert_eq!(facts.iter().last(), Some("loom"));
+/// assert_eq!(facts.len(), 5);
 /// ```
-#[derive(Clone, Debug, Default, PartialEq, Eq)]
+#[derive(Clone, Default, PartialEq, Eq, Hash)]
 pub struct Facts {
     texts: Texts,
 }
@@ -32,16 +35,13 @@ impl Facts {
     ///
     /// assert_eq!(Facts::new(["unix", "test"]).len(), 2);
     /// ```
+    #[must_use]
     pub fn new<I>(facts: I) -> Facts
     where
         I: IntoIterator,
         I::Item: AsRef<str>,
     {
-        let mut all = Facts::default();
-        for fact in facts {
-            all.push(fact.as_ref());
-        }
-        all
+        facts.into_iter().collect()
     }
 
     /// Adds a fact.
@@ -66,8 +66,21 @@ impl Facts {
     /// assert_eq!(facts.get(0), Some("unix"));
     /// assert_eq!(facts.get(1), None);
     /// ```
+    #[must_use]
     pub fn get(&self, number: usize) -> Option<&str> {
         self.texts.get(number)
+    }
+
+    /// Returns the facts in order.
+    ///
+    /// ```
+    /// use cfgx::Facts;
+    ///
+    /// let facts = Facts::new(["unix", "test"]);
+    /// assert_eq!(facts.iter().collect::<Vec<&str>>(), ["unix", "test"]);
+    /// ```
+    pub fn iter(&self) -> impl DoubleEndedIterator<Item = &str> + ExactSizeIterator {
+        (0..self.len()).map(|number| self.get(number).unwrap_or_default())
     }
 
     /// Returns the number of facts.
@@ -75,6 +88,7 @@ impl Facts {
     /// ```
     /// assert_eq!(cfgx::Facts::default().len(), 0);
     /// ```
+    #[must_use]
     pub fn len(&self) -> usize {
         self.texts.ends.len()
     }
@@ -84,8 +98,31 @@ impl Facts {
     /// ```
     /// assert!(cfgx::Facts::default().is_empty());
     /// ```
+    #[must_use]
     pub fn is_empty(&self) -> bool {
         self.texts.ends.is_empty()
+    }
+}
+
+impl<T: AsRef<str>> Extend<T> for Facts {
+    fn extend<I: IntoIterator<Item = T>>(&mut self, facts: I) {
+        for fact in facts {
+            self.push(fact.as_ref());
+        }
+    }
+}
+
+impl<T: AsRef<str>> FromIterator<T> for Facts {
+    fn from_iter<I: IntoIterator<Item = T>>(facts: I) -> Self {
+        let mut all = Facts::default();
+        all.extend(facts);
+        all
+    }
+}
+
+impl fmt::Debug for Facts {
+    fn fmt(&self, f: &mut fmt::Formatter<'_>) -> fmt::Result {
+        f.debug_list().entries(self.iter()).finish()
     }
 }
 
@@ -118,21 +155,47 @@ pub enum Otherwise {
 /// let conditions = [Expression::parse("unix").unwrap(), Expression::parse("test").unwrap()];
 /// let targets = [Facts::new(["unix"]), Facts::new(["windows"])];
 /// let values = audit(&conditions, &targets).unwrap();
+/// assert_eq!((values.condition_count(), values.target_count()), (2, 2));
 /// assert_eq!(values.value(0, 1), Some(false));
 /// assert_eq!(values.row(1), [None, None]);
 /// ```
-#[derive(Clone, Debug, PartialEq, Eq)]
+#[derive(Clone, Debug, PartialEq, Eq, Hash)]
 pub struct Audit {
     values: Vec<Option<bool>>,
+    condition_count: usize,
     target_count: usize,
 }
 
 impl Audit {
+    /// Returns the number of conditions.
+    ///
+    /// ```
+    /// use cfgx::{Facts, audit};
+    ///
+    /// assert_eq!(audit(&[], &[Facts::new(["unix"])]).unwrap().condition_count(), 0);
+    /// ```
+    #[must_use]
+    pub fn condition_count(&self) -> usize {
+        self.condition_count
+    }
+
+    /// Returns the number of targets.
+    ///
+    /// ```
+    /// use cfgx::{Facts, audit};
+    ///
+    /// assert_eq!(audit(&[], &[Facts::new(["unix"])]).unwrap().target_count(), 1);
+    /// ```
+    #[must_use]
+    pub fn target_count(&self) -> usize {
+        self.target_count
+    }
+
     /// Returns the values of the condition with this number, one for each target.
     ///
     /// # Panics
     ///
-    /// If there is no such condition and there are targets.
+    /// If there is no such condition.
     ///
     /// ```
     /// use cfgx::{Expression, Facts, audit};
@@ -141,17 +204,15 @@ impl Audit {
     /// let values = audit(&[Expression::parse("unix").unwrap()], &targets).unwrap();
     /// assert_eq!(values.row(0), [Some(true)]);
     /// ```
+    #[must_use]
     pub fn row(&self, condition: usize) -> &[Option<bool>] {
-        self.found_row(condition)
-            .unwrap_or_else(|| panic!("no condition has the number {condition}"))
-    }
-
-    /// Returns the values of the condition with this number, if there is one or there are no
-    /// targets.
-    fn found_row(&self, condition: usize) -> Option<&[Option<bool>]> {
-        let start = condition.checked_mul(self.target_count)?;
-        self.values
-            .get(start..start.checked_add(self.target_count)?)
+        assert!(
+            condition < self.condition_count,
+            "no condition has the number {condition}"
+        );
+        // The product is at most the number of values, so it does not overflow.
+        let start = condition * self.target_count;
+        &self.values[start..start + self.target_count]
     }
 
     /// Returns the value of the condition with the first number on the target with the second.
@@ -167,6 +228,7 @@ impl Audit {
     /// let values = audit(&[Expression::parse("windows").unwrap()], &targets).unwrap();
     /// assert_eq!(values.value(0, 0), Some(false));
     /// ```
+    #[must_use]
     pub fn value(&self, condition: usize, target: usize) -> Option<bool> {
         let row = self.row(condition);
         *row.get(target)
@@ -178,12 +240,14 @@ impl Audit {
 /// `target_thread_local`.
 ///
 /// ```
+/// use cfgx::error::Reason;
 /// use cfgx::{Facts, audit};
 ///
-/// let targets = [Facts::new(["unix"]), Facts::new(["windows", "all("])];
+/// let targets = [Facts::new(["unix"]), Facts::new(["windows", "?all("])];
 /// let error = audit(&[], &targets).unwrap_err();
 /// assert_eq!((error.target, error.number), (1, 1));
-/// assert_eq!(error.to_string(), "fact 1 of target 1 is faulty: all(");
+/// assert_eq!((error.reason, error.span.clone()), (Reason::UnclosedParens, 4..5));
+/// assert_eq!(error.to_string(), "fact 1 of target 1 is faulty: ?all(");
 /// ```
 #[derive(Clone, Debug, PartialEq, Eq)]
 pub struct FactError {
@@ -193,6 +257,10 @@ pub struct FactError {
     pub number: usize,
     /// The fact.
     pub fact: String,
+    /// What is wrong with it.
+    pub reason: Reason,
+    /// The bytes of `fact` that are at fault.
+    pub span: Range<usize>,
 }
 
 impl fmt::Display for FactError {
@@ -264,20 +332,22 @@ pub fn audit_with(
     match ffi::audit(&texts, &facts, &target_ends, otherwise) {
         Ok(values) => Ok(Audit {
             values,
+            condition_count: conditions.len(),
             target_count: targets.len(),
         }),
-        Err(place) => Err(fact_error(targets, &target_ends, place)),
+        Err(fault) => Err(fact_error(targets, &target_ends, &fault)),
     }
 }
 
-/// Returns the error of the fact at `place` among those of all targets.
-fn fact_error(targets: &[Facts], target_ends: &[usize], place: usize) -> FactError {
-    let target = target_ends.partition_point(|end| *end <= place);
-    let first = target_ends[target] - targets[target].len();
-    let number = place - first;
+/// Returns the error of the fact that has this fault.
+fn fact_error(targets: &[Facts], target_ends: &[usize], fault: &Fault) -> FactError {
+    let target = target_ends.partition_point(|end| *end <= fault.item);
+    let number = fault.item + targets[target].len() - target_ends[target];
     FactError {
         target,
         number,
         fact: targets[target].get(number).unwrap_or_default().to_string(),
+        reason: Reason::new(fault),
+        span: fault.offset + fault.start..fault.offset + fault.end,
     }
 }

@@ -1,12 +1,28 @@
 //! What is wrong with a text.
 
-use crate::ffi::{self, numbers};
+use crate::ffi;
 use std::error::Error;
 use std::fmt;
 use std::ops::Range;
 
-/// The lists of terms of [`Reason::Unexpected`], in the order of their numbers.
-const TERM_LISTS: [&[&str]; 15] = [
+/// The reasons, in the order of their numbers from 1 on. The fault has what their fields are.
+pub(crate) const REASONS: [Reason; 12] = [
+    Reason::InvalidNot(0),
+    Reason::InvalidCharacters,
+    Reason::UnclosedParens,
+    Reason::UnopenedParens,
+    Reason::UnclosedQuotes,
+    Reason::UnopenedQuotes,
+    Reason::Empty,
+    Reason::Unexpected(&[]),
+    Reason::InvalidInteger,
+    Reason::MultipleRootPredicates,
+    Reason::InvalidHasAtomic,
+    Reason::UnknownBuiltin,
+];
+
+/// The lists of terms of [`Reason::Unexpected`], in the order of their numbers from 1 on.
+pub(crate) const TERM_LISTS: [&[&str]; 15] = [
     &[],
     &["<key>", "all", "any", "not"],
     &["<key>", ")", "all", "any", "not"],
@@ -130,11 +146,12 @@ impl fmt::Display for HasAtomicParseError {
 impl Error for HasAtomicParseError {}
 
 impl ParseError {
-    /// Returns the error of a text that has this fault. `original` is the text without an outer
-    /// `cfg( )`.
-    pub(crate) fn new(original: &str, fault: &ffi::Fault) -> Self {
+    /// Returns the error of `text`, which has this fault.
+    pub(crate) fn new(text: &str, fault: &ffi::Fault) -> Self {
+        // What was stripped before the text is the `cfg(` of `cfg( )`.
+        let end = text.len() - usize::from(fault.offset > 0);
         ParseError {
-            original: original.to_string(),
+            original: text[fault.offset..end].to_string(),
             span: fault.start..fault.end,
             reason: Reason::new(fault),
         }
@@ -143,21 +160,11 @@ impl ParseError {
 
 impl Reason {
     /// Returns the reason of a fault.
-    fn new(fault: &ffi::Fault) -> Self {
-        match fault.reason {
-            numbers::REASON_INVALID_NOT => Reason::InvalidNot(fault.members),
-            numbers::REASON_INVALID_CHARACTERS => Reason::InvalidCharacters,
-            numbers::REASON_UNCLOSED_PARENS => Reason::UnclosedParens,
-            numbers::REASON_UNOPENED_PARENS => Reason::UnopenedParens,
-            numbers::REASON_UNCLOSED_QUOTES => Reason::UnclosedQuotes,
-            numbers::REASON_UNOPENED_QUOTES => Reason::UnopenedQuotes,
-            numbers::REASON_EMPTY => Reason::Empty,
-            numbers::REASON_UNEXPECTED => Reason::Unexpected(TERM_LISTS[fault.terms as usize - 1]),
-            numbers::REASON_INVALID_INTEGER => Reason::InvalidInteger,
-            numbers::REASON_MULTIPLE_ROOT_PREDICATES => Reason::MultipleRootPredicates,
-            numbers::REASON_INVALID_HAS_ATOMIC => Reason::InvalidHasAtomic,
-            numbers::REASON_UNKNOWN_BUILTIN => Reason::UnknownBuiltin,
-            reason => unreachable!("reason {reason}"),
+    pub(crate) fn new(fault: &ffi::Fault) -> Self {
+        match REASONS[fault.reason as usize - 1] {
+            Reason::InvalidNot(_) => Reason::InvalidNot(fault.members),
+            Reason::Unexpected(_) => Reason::Unexpected(TERM_LISTS[fault.terms as usize - 1]),
+            reason => reason,
         }
     }
 

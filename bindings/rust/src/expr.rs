@@ -1,5 +1,6 @@
 //! Conditions, and the predicates that they ask.
 
+pub mod lexer;
 pub mod logic;
 mod node;
 mod predicate;
@@ -12,6 +13,7 @@ use node::{Node, nodes_of};
 pub use predicate::{Predicate, TargetMatcher, TargetPredicate};
 use stack::Stack;
 use std::fmt;
+use std::hash::{Hash, Hasher};
 use std::str::FromStr;
 
 /// A parsed condition.
@@ -19,20 +21,39 @@ use std::str::FromStr;
 /// The engine parses the text once. An expression is plain data, so threads may share it.
 ///
 /// Two expressions are equal if their texts are equal, without an outer `cfg( )`: `key` and `key,`
-/// are not. An expression prints this text.
+/// are not. Equal expressions have the same hash. An expression prints this text.
 ///
 /// ```
 /// use cfgx::{Expression, Predicate};
+/// use std::collections::HashSet;
 ///
 /// let expression = Expression::parse("cfg(any(unix, feature = \"x\"))")?;
 /// assert!(expression.eval(|predicate| matches!(predicate, Predicate::Feature("x"))));
 /// assert_eq!(expression.to_string(), "any(unix, feature = \"x\")");
+///
+/// let same = Expression::parse("any(unix, feature = \"x\")")?;
+/// let other = Expression::parse("any(unix, feature = \"x\",)")?;
+/// assert_eq!(HashSet::from([expression, same, other]).len(), 2);
 /// # Ok::<(), cfgx::ParseError>(())
 /// ```
 #[derive(Clone)]
 pub struct Expression {
-    original: String,
+    /// The text, also with an outer `cfg( )`
+    text: String,
     nodes: Vec<Node>,
+}
+
+/// A function of a condition, with the number of its members.
+///
+/// No call takes or returns it. `cfg-expr` has it too.
+#[derive(Clone, Copy, Debug, PartialEq, Eq, PartialOrd, Ord)]
+pub enum Func {
+    /// `not( )`, which has one member
+    Not,
+    /// `all( )`
+    All(usize),
+    /// `any( )`
+    Any(usize),
 }
 
 /// What [`Expression::decide`] found.
@@ -81,18 +102,13 @@ impl Expression {
     /// assert!(Expression::parse("all(unix, test)").is_ok());
     /// assert!(Expression::parse("all(unix").is_err());
     /// ```
-    pub fn parse(original: &str) -> Result<Self, ParseError> {
-        let (offset, stripped) = strip(original);
-        let nodes = ffi::compile(original, |steps, predicates| {
-            nodes_of(stripped, offset, steps, predicates)
-        });
-        match nodes {
-            Ok(nodes) => Ok(Expression {
-                original: stripped.to_string(),
-                nodes,
-            }),
-            Err(fault) => Err(ParseError::new(stripped, &fault)),
-        }
+    pub fn parse(text: &str) -> Result<Self, ParseError> {
+        let nodes = ffi::compile(text, |steps, asked| nodes_of(text, steps, asked))
+            .map_err(|fault| ParseError::new(text, &fault))?;
+        Ok(Expression {
+            text: text.to_string(),
+            nodes,
+        })
     }
 
     /// Returns the text without an outer `cfg( )`.
@@ -103,7 +119,11 @@ impl Expression {
     /// assert_eq!(Expression::parse("cfg(unix)").unwrap().original(), "unix");
     /// ```
     pub fn original(&self) -> &str {
-        &self.original
+        // A condition that begins so stands in `cfg( )`, so it ends with `)`.
+        match self.text.strip_prefix("cfg(") {
+            Some(rest) => &rest[..rest.len() - 1],
+            None => &self.text,
+        }
     }
 
     /// Returns the predicates in the order in which they are asked: those of a list's functions,
@@ -130,7 +150,7 @@ impl Expression {
         mut ask: impl FnMut(&Predicate<'a>) -> T,
     ) -> impl Iterator<Item = T> {
         self.nodes.iter().filter_map(move |node| match node {
-            Node::Ask(question) => Some(question.answer(&self.original, &mut ask)),
+            Node::Ask(question) => Some(question.answer(&self.text, &mut ask)),
             _ => None,
         })
     }
@@ -161,7 +181,7 @@ impl Expression {
         let mut stack = Stack::<T>::new();
         for node in &self.nodes {
             let value = match node {
-                Node::Ask(question) => question.answer(&self.original, &mut eval_predicate),
+                Node::Ask(question) => question.answer(&self.text, &mut eval_predicate),
                 Node::Literal(true) => T::top(),
                 Node::Literal(false) => T::bottom(),
                 Node::Not => stack.pop().not(),
@@ -196,50 +216,47 @@ impl Expression {
         EP: FnMut(&Predicate<'_>) -> Option<bool>,
     {
         let answers: Vec<Option<bool>> = self.answers(eval_predicate).collect();
-        match ffi::decide(&self.original, &answers) {
+        match ffi::decide(self.original(), &answers) {
             (Some(value), _) => Decision::Known(value),
-            (None, fillings) => {
-                let (if_true, if_false) = fillings.split_at(answers.len());
-                Decision::Unknown {
-                    if_true: if_true.to_vec(),
-                    if_false: if_false.to_vec(),
-                }
+            (None, mut if_true) => {
+                let if_false = if_true.split_off(answers.len());
+                Decision::Unknown { if_true, if_false }
             }
         }
     }
-}
-
-/// Returns the text without an outer `cfg( )`, and the number of bytes before it.
-fn strip(text: &str) -> (usize, &str) {
-    let inner = text
-        .strip_prefix("cfg(")
-        .and_then(|rest| rest.strip_suffix(')'));
-    inner.map_or((0, text), |inner| (4, inner))
 }
 
 impl FromStr for Expression {
     type Err = ParseError;
 
     /// Does what [`Expression::parse`] does.
-    fn from_str(original: &str) -> Result<Self, ParseError> {
-        Expression::parse(original)
+    fn from_str(text: &str) -> Result<Self, ParseError> {
+        Expression::parse(text)
     }
 }
 
 impl fmt::Display for Expression {
     fn fmt(&self, f: &mut fmt::Formatter<'_>) -> fmt::Result {
-        f.write_str(&self.original)
+        f.write_str(self.original())
     }
 }
 
 impl fmt::Debug for Expression {
     fn fmt(&self, f: &mut fmt::Formatter<'_>) -> fmt::Result {
-        f.debug_tuple("Expression").field(&self.original).finish()
+        f.debug_tuple("Expression").field(&self.original()).finish()
     }
 }
 
 impl PartialEq for Expression {
     fn eq(&self, other: &Self) -> bool {
-        self.original == other.original
+        self.original() == other.original()
+    }
+}
+
+impl Eq for Expression {}
+
+impl Hash for Expression {
+    fn hash<H: Hasher>(&self, state: &mut H) {
+        self.original().hash(state);
     }
 }

@@ -17,16 +17,16 @@ use numbers::{
 };
 use std::alloc::{Layout, handle_alloc_error};
 use std::mem::MaybeUninit;
-use std::ptr::NonNull;
 use std::slice;
 
 /// The version of the header that these declarations are of.
 const VERSION: u32 = VERSION_LANGUAGE * 1_000_000 + VERSION_MAJOR * 1000 + VERSION_MINOR;
 
-/// What is wrong with a text: `struct cfgx_fault`.
+/// What is wrong with a text or a fact: `struct cfgx_fault`.
 #[repr(C)]
-#[derive(Default)]
+#[derive(Debug, Default)]
 pub(crate) struct Fault {
+    pub(crate) item: usize,
     pub(crate) offset: usize,
     pub(crate) start: usize,
     pub(crate) end: usize,
@@ -35,12 +35,14 @@ pub(crate) struct Fault {
     pub(crate) terms: u32,
 }
 
-/// A predicate of a text: `struct cfgx_predicate`.
+/// A predicate of a text: `struct cfgx_predicate`. The crate does not read its whole span.
 #[repr(C)]
-#[derive(Clone, Copy, Default)]
+#[allow(dead_code)]
 pub(crate) struct Predicate {
     pub(crate) kind: u32,
     pub(crate) number: u32,
+    pub(crate) start: usize,
+    pub(crate) end: usize,
     pub(crate) key_start: usize,
     pub(crate) key_end: usize,
     pub(crate) value_start: usize,
@@ -49,14 +51,29 @@ pub(crate) struct Predicate {
 
 /// A step of an evaluation: `struct cfgx_step`.
 #[repr(C)]
-#[derive(Clone, Copy, Default)]
 pub(crate) struct Step {
     pub(crate) kind: u32,
     pub(crate) count: usize,
 }
 
+/// A token of a text: `struct cfgx_token`.
+#[repr(C)]
+pub(crate) struct Token {
+    pub(crate) kind: u32,
+    pub(crate) start: usize,
+    pub(crate) end: usize,
+}
+
+/// The tokens of a text, the number of bytes before its stripped text, and the fault at which the
+/// tokens end, if it has one.
+pub(crate) struct Tokens {
+    pub(crate) tokens: Vec<Token>,
+    pub(crate) offset: usize,
+    pub(crate) fault: Option<Fault>,
+}
+
 /// Texts one after another, and the numbers of bytes up to the end of each.
-#[derive(Clone, Debug, Default, PartialEq, Eq)]
+#[derive(Clone, Debug, Default, PartialEq, Eq, Hash)]
 pub(crate) struct Texts {
     pub(crate) bytes: String,
     pub(crate) ends: Vec<usize>,
@@ -87,8 +104,6 @@ impl Texts {
 unsafe extern "C" {
     safe fn cfgx_version() -> u32;
 
-    fn cfgx_check(text: *const u8, text_length: usize, fault: *mut Fault) -> u32;
-
     fn cfgx_compile(
         text: *const u8,
         text_length: usize,
@@ -98,6 +113,7 @@ unsafe extern "C" {
         predicates: *mut Predicate,
         predicate_room: usize,
         predicates_needed: *mut usize,
+        fault: *mut Fault,
     ) -> u32;
 
     fn cfgx_decide(
@@ -109,19 +125,7 @@ unsafe extern "C" {
         room: usize,
         needed: *mut usize,
         value: *mut u8,
-    ) -> u32;
-
-    fn cfgx_answers(
-        text: *const u8,
-        text_length: usize,
-        facts: *const u8,
-        facts_length: usize,
-        fact_ends: *const usize,
-        fact_count: usize,
-        otherwise: u8,
-        answers: *mut u8,
-        room: usize,
-        needed: *mut usize,
+        fault: *mut Fault,
     ) -> u32;
 
     fn cfgx_audit(
@@ -139,7 +143,17 @@ unsafe extern "C" {
         values: *mut u8,
         room: usize,
         needed: *mut usize,
-        place: *mut usize,
+        fault: *mut Fault,
+    ) -> u32;
+
+    fn cfgx_tokens(
+        text: *const u8,
+        text_length: usize,
+        tokens: *mut Token,
+        room: usize,
+        needed: *mut usize,
+        offset: *mut usize,
+        fault: *mut Fault,
     ) -> u32;
 }
 
@@ -152,34 +166,17 @@ fn ensure_version() {
     );
 }
 
-/// Ends the process, as collections do if there is no memory. `size` is the number of bytes that
-/// the call was passed, since the call does not say how many it asked for.
-fn end_without_memory(size: usize) -> ! {
-    handle_alloc_error(Layout::array::<u8>(size).unwrap_or(Layout::new::<u8>()))
-}
-
-/// A buffer for a call. Up to 128 items take no memory.
-struct Buffer<T> {
-    short: [MaybeUninit<T>; 128],
-    long: Vec<T>,
-}
-
-impl<T> Buffer<T> {
-    /// Returns a buffer without items.
-    fn new() -> Self {
-        Buffer {
-            short: [const { MaybeUninit::uninit() }; 128],
-            long: Vec::new(),
+/// Returns the fault of a text or a fact if the status says that there is one. Without memory, ends
+/// the process as collections do. The call does not say how many bytes it asked for, so `size` is
+/// the number of those that it was passed.
+fn result_of(status: u32, fault: Fault, size: usize) -> Result<(), Fault> {
+    match status {
+        STATUS_DONE => Ok(()),
+        STATUS_FAULTY | STATUS_FAULTY_FACT => Err(fault),
+        STATUS_OUT_OF_MEMORY => {
+            handle_alloc_error(Layout::array::<u8>(size).unwrap_or(Layout::new::<u8>()))
         }
-    }
-
-    /// Returns room for at least `count` items.
-    fn room(&mut self, count: usize) -> &mut [MaybeUninit<T>] {
-        if count <= self.short.len() {
-            return &mut self.short;
-        }
-        self.long.reserve_exact(count);
-        self.long.spare_capacity_mut()
+        _ => unreachable!("status {status}"),
     }
 }
 
@@ -190,22 +187,22 @@ pub(crate) fn compile<R>(
     read: impl FnOnce(&[Step], &[Predicate]) -> R,
 ) -> Result<R, Fault> {
     ensure_version();
-    // A step stands for at least one byte of the text, and one more stands between two steps. So
-    // there is room for all, and one call is enough. With less room the slices below would panic.
-    let most = text.len().div_ceil(2);
-    let (mut steps, mut predicates) = (Buffer::new(), Buffer::new());
-    let (steps, predicates) = fill_compiled(text, steps.room(most), predicates.room(most))?;
-    Ok(read(steps, predicates))
+    // Most conditions have no more of both, and take no memory here.
+    let mut steps = [const { MaybeUninit::uninit() }; 128];
+    let mut predicates = [const { MaybeUninit::uninit() }; 128];
+    compile_into(text, &mut steps, &mut predicates, read)
 }
 
-/// Fills both buffers from their start, and returns what was filled.
-fn fill_compiled<'a>(
+/// Does what `compile` does. If one of the buffers has too little room, calls once more with what
+/// is needed.
+fn compile_into<R>(
     text: &str,
-    steps: &'a mut [MaybeUninit<Step>],
-    predicates: &'a mut [MaybeUninit<Predicate>],
-) -> Result<(&'a [Step], &'a [Predicate]), Fault> {
-    let (mut step_count, mut predicate_count) = (0, 0);
-    // SAFETY: the slices and the counts are as the head of this module says.
+    steps: &mut [MaybeUninit<Step>],
+    predicates: &mut [MaybeUninit<Predicate>],
+    read: impl FnOnce(&[Step], &[Predicate]) -> R,
+) -> Result<R, Fault> {
+    let (mut step_count, mut predicate_count, mut fault) = (0, 0, Fault::default());
+    // SAFETY: the slices, the counts and the fault are as the head of this module says.
     let status = unsafe {
         cfgx_compile(
             text.as_ptr(),
@@ -216,18 +213,18 @@ fn fill_compiled<'a>(
             predicates.as_mut_ptr().cast(),
             predicates.len(),
             &mut predicate_count,
+            &mut fault,
         )
     };
-    match status {
-        STATUS_DONE => {
-            let (steps, predicates) = (&steps[..step_count], &predicates[..predicate_count]);
-            // SAFETY: both buffers had the room, so the call filled this part of each.
-            Ok(unsafe { (filled(steps), filled(predicates)) })
-        }
-        STATUS_FAULTY => Err(fault_of(text)),
-        STATUS_OUT_OF_MEMORY => end_without_memory(text.len()),
-        _ => unreachable!("status {status}"),
+    result_of(status, fault, text.len())?;
+    if step_count <= steps.len() && predicate_count <= predicates.len() {
+        let (steps, predicates) = (&steps[..step_count], &predicates[..predicate_count]);
+        // SAFETY: both buffers had the room, so the call filled this part of each.
+        return Ok(unsafe { read(filled(steps), filled(predicates)) });
     }
+    let mut steps = Box::new_uninit_slice(step_count);
+    let mut predicates = Box::new_uninit_slice(predicate_count);
+    compile_into(text, &mut steps, &mut predicates, read)
 }
 
 /// Returns the items of a buffer.
@@ -238,17 +235,6 @@ fn fill_compiled<'a>(
 unsafe fn filled<T>(buffer: &[MaybeUninit<T>]) -> &[T] {
     // SAFETY: a written item has the layout of its type, and the result borrows the buffer.
     unsafe { slice::from_raw_parts(buffer.as_ptr().cast(), buffer.len()) }
-}
-
-/// Returns the fault of a text that is no condition.
-fn fault_of(text: &str) -> Fault {
-    let mut fault = Fault::default();
-    // SAFETY: the text and the fault are as the head of this module says.
-    match unsafe { cfgx_check(text.as_ptr(), text.len(), &mut fault) } {
-        STATUS_FAULTY => fault,
-        STATUS_OUT_OF_MEMORY => end_without_memory(text.len()),
-        status => unreachable!("status {status}"),
-    }
 }
 
 /// Returns the byte of an answer.
@@ -270,8 +256,8 @@ fn value_of(byte: u8) -> Option<bool> {
 pub(crate) fn decide(text: &str, answers: &[Option<bool>]) -> (Option<bool>, Vec<bool>) {
     let answers: Vec<u8> = answers.iter().copied().map(byte_of).collect();
     let mut fillings = vec![0; 2 * answers.len()];
-    let (mut needed, mut value) = (0, 0);
-    // SAFETY: the slices, the count and the value are as the head of this module says.
+    let (mut needed, mut value, mut fault) = (0, 0, Fault::default());
+    // SAFETY: the slices, the count, the value and the fault are as the head of this module says.
     let status = unsafe {
         cfgx_decide(
             text.as_ptr(),
@@ -282,57 +268,28 @@ pub(crate) fn decide(text: &str, answers: &[Option<bool>]) -> (Option<bool>, Vec
             fillings.len(),
             &mut needed,
             &mut value,
+            &mut fault,
         )
     };
-    match status {
-        STATUS_DONE => fillings.truncate(needed),
-        STATUS_OUT_OF_MEMORY => end_without_memory(text.len()),
-        _ => unreachable!("status {status}"),
-    }
+    result_of(status, fault, text.len()).expect("the text is a condition");
+    fillings.truncate(needed);
     let fillings = fillings.into_iter().map(|byte| byte != 0).collect();
     (value_of(value), fillings)
 }
 
-/// Returns whether the engine takes a text as a fact, also as one that it passes over.
-pub(crate) fn is_fact(fact: &str) -> bool {
-    let condition = "true";
-    let mut needed = 0;
-    // SAFETY: the texts and the count are as the head of this module says. There is one text, so
-    // its end is one number. The buffer has no room, so any pointer will do that is not null.
-    let status = unsafe {
-        cfgx_answers(
-            condition.as_ptr(),
-            condition.len(),
-            fact.as_ptr(),
-            fact.len(),
-            &fact.len(),
-            1,
-            byte_of(None),
-            NonNull::dangling().as_ptr(),
-            0,
-            &mut needed,
-        )
-    };
-    match status {
-        STATUS_DONE => true,
-        STATUS_FAULTY_FACT => false,
-        STATUS_OUT_OF_MEMORY => end_without_memory(fact.len()),
-        _ => unreachable!("status {status}"),
-    }
-}
-
-/// Returns the value of each condition on each target, or the number of the first faulty fact.
-/// Target j has the facts up to `target_ends[j]`, and the last of these is the number of facts.
+/// Returns the value of each condition on each target, or the fault of the first faulty fact. Each
+/// of `conditions` is one. Target j has the facts up to `target_ends[j]`, and the last of these is
+/// the number of facts.
 pub(crate) fn audit(
     conditions: &Texts,
     facts: &Texts,
     target_ends: &[usize],
     otherwise: Option<bool>,
-) -> Result<Vec<Option<bool>>, usize> {
+) -> Result<Vec<Option<bool>>, Fault> {
     ensure_version();
     let mut values = vec![0; conditions.ends.len().saturating_mul(target_ends.len())];
-    let (mut needed, mut place) = (0, 0);
-    // SAFETY: the slices and the counts are as the head of this module says.
+    let (mut needed, mut fault) = (0, Fault::default());
+    // SAFETY: the slices, the count and the fault are as the head of this module says.
     let status = unsafe {
         cfgx_audit(
             conditions.bytes.as_ptr(),
@@ -349,13 +306,45 @@ pub(crate) fn audit(
             values.as_mut_ptr(),
             values.len(),
             &mut needed,
-            &mut place,
+            &mut fault,
         )
     };
-    match status {
-        STATUS_DONE => Ok(values.into_iter().map(value_of).collect()),
-        STATUS_FAULTY_FACT => Err(place),
-        STATUS_OUT_OF_MEMORY => end_without_memory(facts.bytes.len()),
-        _ => unreachable!("status {status}"),
+    result_of(status, fault, facts.bytes.len())?;
+    Ok(values.into_iter().map(value_of).collect())
+}
+
+/// Returns the tokens of a text.
+pub(crate) fn tokens(text: &str) -> Tokens {
+    ensure_version();
+    // Most conditions have no more, and no text has more tokens than bytes.
+    tokens_into(text, Vec::with_capacity(text.len().min(64)))
+}
+
+/// Does what `tokens` does. If the buffer has too little room, calls once more with what is needed.
+fn tokens_into(text: &str, mut tokens: Vec<Token>) -> Tokens {
+    let (mut needed, mut offset, mut fault) = (0, 0, Fault::default());
+    // SAFETY: the slice, the capacity, the counts and the fault are as the head of this module
+    // says.
+    let status = unsafe {
+        cfgx_tokens(
+            text.as_ptr(),
+            text.len(),
+            tokens.as_mut_ptr(),
+            tokens.capacity(),
+            &mut needed,
+            &mut offset,
+            &mut fault,
+        )
+    };
+    let fault = result_of(status, fault, text.len()).err();
+    if needed > tokens.capacity() {
+        return tokens_into(text, Vec::with_capacity(needed));
+    }
+    // SAFETY: the buffer had the room, so the call filled this part of it.
+    unsafe { tokens.set_len(needed) };
+    Tokens {
+        tokens,
+        offset,
+        fault,
     }
 }

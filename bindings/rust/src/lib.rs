@@ -9,9 +9,9 @@
 //! cfg-expr = { package = "cfgx", path = "../cfgx/bindings/rust" }
 //! ```
 //!
-//! The crate calls an engine that is proved: [`Expression::parse`], [`Expression::decide`] and
-//! [`audit()`] get their results from it. [`Expression::eval`] is code of this crate, which is
-//! tested, and not proved.
+//! The crate calls an engine that is proved: [`Expression::parse`], [`Expression::decide`],
+//! [`audit()`] and [`Lexer`](expr::lexer::Lexer) get their results from it. [`Expression::eval`] is
+//! code of this crate, which is tested, and not proved.
 //!
 //! ```
 //! use cfgx as cfg_expr;
@@ -27,6 +27,7 @@
 //! ```
 //!
 //! What `cfg-expr` does not have: [`Expression::decide`], [`audit()`],
+//! [`builtin_facts`](targets::builtin_facts),
 //! [`TargetInfo::from_rustc_cfg`](targets::TargetInfo::from_rustc_cfg) and
 //! [`Rustc`](targets::Rustc).
 //!
@@ -35,6 +36,12 @@
 //! A call that gets no memory ends the process by
 //! [`handle_alloc_error`](std::alloc::handle_alloc_error), as those of `Vec` do. All types are
 //! plain data, so they are `Send` and `Sync`.
+//!
+//! # Signals and forks
+//!
+//! Do not call from a signal handler, nor from the child of a fork in a process with threads, such
+//! as in the closure of [`pre_exec`](std::os::unix::process::CommandExt::pre_exec). Calls take
+//! memory from `malloc`, which may wait there for ever. A program that the child executes may call.
 
 #![deny(missing_docs)]
 #![deny(unsafe_code)]

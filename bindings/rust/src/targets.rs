@@ -1,13 +1,16 @@
 //! Targets, as conditions see them.
 
+#[macro_use]
+mod named;
 mod builtins;
+mod facts;
 mod fields;
 mod lists;
 mod printed;
 mod rustc;
 
 use crate::error::{HasAtomicParseError, Reason};
-pub use builtins::ALL_BUILTINS;
+pub use facts::builtin_facts;
 pub use fields::{Abi, Arch, Env, Family, Os, Panic, Triple, Vendor};
 pub use lists::{Families, HasAtomics};
 pub use printed::RustcCfgError;
@@ -136,27 +139,44 @@ impl fmt::Display for HasAtomic {
     }
 }
 
+/// The built-in targets, in the order of their triples: every target of the compiler that
+/// [`rustc_version`] names. A field is missing if this compiler prints no value for it, or `none`
+/// as the operating system.
+///
+/// ```
+/// use cfgx::targets::{ALL_BUILTINS, Arch};
+///
+/// let wasm = ALL_BUILTINS.iter().filter(|target| target.arch == Arch::wasm32);
+/// assert!(wasm.count() > 1);
+/// ```
+pub const ALL_BUILTINS: &[TargetInfo] = builtins::TARGETS;
+
 /// Returns the built-in target with this triple.
 ///
 /// ```
-/// use cfgx::targets::get_builtin_target_by_triple;
+/// use cfgx::targets::{Os, get_builtin_target_by_triple};
 ///
-/// assert!(get_builtin_target_by_triple("aarch64-apple-tvos").is_some());
-/// assert!(get_builtin_target_by_triple("x86_64-unknown-linux-gnu").is_none());
+/// let target = get_builtin_target_by_triple("x86_64-unknown-linux-gnu").unwrap();
+/// assert_eq!(target.os, Some(Os::linux));
+/// assert!(get_builtin_target_by_triple("x86_64-linux-gnu").is_none());
 /// ```
+#[must_use]
 pub fn get_builtin_target_by_triple(triple: &str) -> Option<&'static TargetInfo> {
-    ALL_BUILTINS
-        .binary_search_by(|target| target.triple.as_str().cmp(triple))
-        .ok()
-        .map(|place| &ALL_BUILTINS[place])
+    place_of(triple).map(|place| &ALL_BUILTINS[place])
 }
 
-/// Returns `1.99.0`, a fixed text. The built-in targets and the named values need not be those of
-/// that compiler.
+/// Returns the place of the built-in target with this triple.
+fn place_of(triple: &str) -> Option<usize> {
+    let found = ALL_BUILTINS.binary_search_by(|target| target.triple.as_str().cmp(triple));
+    found.ok()
+}
+
+/// Returns the version of the compiler that has the built-in targets, and no others.
 ///
 /// ```
-/// assert_eq!(cfgx::targets::rustc_version(), "1.99.0");
+/// assert!(cfgx::targets::rustc_version().starts_with("1."));
 /// ```
+#[must_use]
 pub const fn rustc_version() -> &'static str {
-    "1.99.0"
+    builtins::RUSTC_VERSION
 }

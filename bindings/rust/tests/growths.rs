@@ -4,6 +4,7 @@
 
 #![cfg(target_env = "gnu")]
 
+use cfgx::expr::lexer::Lexer;
 use cfgx::targets::TargetInfo;
 use cfgx::{Expression, Facts, Otherwise, Predicate, audit, audit_with};
 use std::cell::Cell;
@@ -71,6 +72,12 @@ const COPIED: &str = "not named";
 /// A text that is no condition.
 const FAULTY: &str = "cfg(all(unix, any(key = \"value\", not(a, b))))";
 
+/// A text with a quote that is never closed.
+const UNCLOSED: &str = "cfg(all(unix, any(key = \"value, not(test))))";
+
+/// The number of members of a condition with more steps and tokens than the crate has room for.
+const MEMBERS: usize = 200;
+
 /// A line that no condition can ask.
 const PASSED_OVER: &str = "target_something_that_no_condition_can_ask_for=\"x\"";
 
@@ -79,12 +86,17 @@ const PASSED_OVER: &str = "target_something_that_no_condition_can_ask_for=\"x\""
 fn call(name: &str, granted: usize) {
     let expression = Expression::parse(CONDITION).unwrap();
     let conditions = [expression];
+    let long = format!("all({})", "a,".repeat(MEMBERS));
     let targets = [Facts::new(["unix", PASSED_OVER, "?a"]), Facts::default()];
     let no_targets = [Facts::new(["unix"]), Facts::new(["test", "all( "])];
     GRANTED.set(granted);
     match name {
         "parse" => drop(Expression::parse(CONDITION)),
         "parse a faulty text" => drop(Expression::parse(FAULTY)),
+        "parse a long text" => drop(Expression::parse(&long)),
+        "list tokens" => drop(Lexer::new(CONDITION)),
+        "list tokens up to a fault" => drop(Lexer::new(UNCLOSED)),
+        "list many tokens" => drop(Lexer::new(&long)),
         "decide" => drop(conditions[0].decide(|_| None)),
         "audit" => drop(audit(&conditions, &targets)),
         "audit_with" => drop(audit_with(&conditions, &targets, Otherwise::False)),
@@ -151,6 +163,10 @@ fn bytes_named(name: &str, granted: usize) -> Option<usize> {
 const CALLS: &[(&str, Option<usize>)] = &[
     ("parse", Some(CONDITION.len())),
     ("parse a faulty text", Some(FAULTY.len())),
+    ("parse a long text", Some(2 * MEMBERS + 5)),
+    ("list tokens", Some(CONDITION.len())),
+    ("list tokens up to a fault", Some(UNCLOSED.len())),
+    ("list many tokens", Some(2 * MEMBERS + 5)),
     ("decide", Some(CONDITION.len() - 5)),
     ("audit", Some(PASSED_OVER.len() + 6)),
     ("audit_with", Some(PASSED_OVER.len() + 6)),

@@ -34,17 +34,13 @@ pub(super) enum Question {
     },
 }
 
-/// Returns the nodes of `original`, which begins at the byte `offset` of the text that the steps
-/// and the predicates are of.
+/// Returns the nodes of a text with these steps and predicates.
 pub(super) fn nodes_of(
-    original: &str,
-    offset: usize,
+    text: &str,
     steps: &[ffi::Step],
     predicates: &[ffi::Predicate],
 ) -> Vec<Node> {
-    let mut questions = predicates
-        .iter()
-        .map(|predicate| Question::new(original, offset, predicate));
+    let mut questions = predicates.iter().map(|found| Question::new(text, found));
     let node_of = |step: &ffi::Step| match step.kind {
         numbers::STEP_FALSE => Node::Literal(false),
         numbers::STEP_TRUE => Node::Literal(true),
@@ -58,12 +54,11 @@ pub(super) fn nodes_of(
 }
 
 impl Question {
-    /// Returns the question for a predicate of the text in which `original` begins at the byte
-    /// `offset`. The text of a predicate on the target is copied.
-    fn new(original: &str, offset: usize, found: &ffi::Predicate) -> Question {
-        let key = || found.key_start - offset..found.key_end - offset;
-        let value = || found.value_start - offset..found.value_end - offset;
-        let text = || &original[value()];
+    /// Returns the question for a predicate of `text`. The value of one on the target is copied.
+    fn new(text: &str, found: &ffi::Predicate) -> Question {
+        let key = || found.key_start..found.key_end;
+        let value = || found.value_start..found.value_end;
+        let text = || &text[value()];
         let target = |predicate| Question::Whole(Predicate::Target(predicate));
         match found.kind {
             numbers::PREDICATE_FLAG => Question::Flag(key()),
@@ -94,13 +89,9 @@ impl Question {
         }
     }
 
-    /// Returns what `ask` answers to the predicate of `original`.
-    pub(super) fn answer<'a, T>(
-        &self,
-        original: &'a str,
-        ask: impl FnOnce(&Predicate<'a>) -> T,
-    ) -> T {
-        let cut = |span: &Range<usize>| &original[span.clone()];
+    /// Returns what `ask` answers to the predicate of `text`.
+    pub(super) fn answer<'a, T>(&self, text: &'a str, ask: impl FnOnce(&Predicate<'a>) -> T) -> T {
+        let cut = |span: &Range<usize>| &text[span.clone()];
         match self {
             Question::Whole(predicate) => ask(predicate),
             Question::Feature(span) => ask(&Predicate::Feature(cut(span))),

@@ -12,7 +12,7 @@ use crate::targets::{Abi, Arch, Endian, Env, Family, HasAtomic, Os, Panic, Targe
 /// assert!(TargetPredicate::Os(Os::macos).matches(target));
 /// assert!(!TargetPredicate::Os(Os::linux).matches(target));
 /// ```
-#[derive(Clone, Debug, PartialEq, Eq)]
+#[derive(Clone, Debug, PartialEq, Eq, Hash)]
 pub enum TargetPredicate {
     /// `target_abi`
     Abi(Abi),
@@ -46,6 +46,7 @@ impl TargetPredicate {
     /// let target = get_builtin_target_by_triple("aarch64-apple-ios").unwrap();
     /// assert!(TargetPredicate::PointerWidth(64).matches(target));
     /// ```
+    #[must_use]
     pub fn matches<T>(&self, target: &T) -> bool
     where
         T: TargetMatcher,
@@ -109,7 +110,7 @@ fn text_of<'a>(field: &'a Option<impl AsRef<str>>, missing: &'a str) -> &'a str 
 /// let asked: Vec<Predicate<'_>> = expression.predicates().collect();
 /// assert_eq!(asked, [Predicate::Feature("x"), Predicate::Flag("loom")]);
 /// ```
-#[derive(Clone, Debug, PartialEq, Eq)]
+#[derive(Clone, Debug, PartialEq, Eq, Hash)]
 pub enum Predicate<'a> {
     /// A predicate on the target
     Target(TargetPredicate),

@@ -1,4 +1,5 @@
-//! The numbers of `crates/cfgx_c/include/cfgx.h`, by their names without `CFGX_`.
+//! The numbers of `crates/cfgx_c/include/cfgx.h`, by their names without `CFGX_`. Those of reasons
+//! and of lists of terms are places in the tables of `error.rs`.
 
 /// Declares numbers, and the list of all for a test. Some are those of calls that the crate does
 /// not use.
@@ -17,7 +18,7 @@ macro_rules! numbers {
 numbers! {
     VERSION_LANGUAGE = 2,
     VERSION_MAJOR = 2,
-    VERSION_MINOR = 0,
+    VERSION_MINOR = 1,
     STATUS_DONE = 0,
     STATUS_FAULTY = 1,
     STATUS_WRONG_USE = 2,
@@ -31,33 +32,6 @@ numbers! {
     VALUE_FALSE = 0,
     VALUE_TRUE = 1,
     VALUE_UNKNOWN = 2,
-    REASON_INVALID_NOT = 1,
-    REASON_INVALID_CHARACTERS = 2,
-    REASON_UNCLOSED_PARENS = 3,
-    REASON_UNOPENED_PARENS = 4,
-    REASON_UNCLOSED_QUOTES = 5,
-    REASON_UNOPENED_QUOTES = 6,
-    REASON_EMPTY = 7,
-    REASON_UNEXPECTED = 8,
-    REASON_INVALID_INTEGER = 9,
-    REASON_MULTIPLE_ROOT_PREDICATES = 10,
-    REASON_INVALID_HAS_ATOMIC = 11,
-    REASON_UNKNOWN_BUILTIN = 12,
-    TERMS_NONE = 1,
-    TERMS_START = 2,
-    TERMS_OPEN = 3,
-    TERMS_COMMA = 4,
-    TERMS_KEY = 5,
-    TERMS_EQUALS = 6,
-    TERMS_VALUE = 7,
-    TERMS_FUNCTION = 8,
-    TERMS_CLOSE = 9,
-    TERMS_END = 10,
-    TERMS_FEATURE_NAME = 11,
-    TERMS_PANIC_STRATEGY = 12,
-    TERMS_TARGET_VALUE = 13,
-    TERMS_TARGET_FEATURE = 14,
-    TERMS_TARGET_KEY = 15,
     PREDICATE_FLAG = 1,
     PREDICATE_KEY_VALUE = 2,
     PREDICATE_TEST = 3,
@@ -84,4 +58,13 @@ numbers! {
     STEP_NOT = 3,
     STEP_ALL = 4,
     STEP_ANY = 5,
+    TOKEN_KEY = 1,
+    TOKEN_VALUE = 2,
+    TOKEN_EQUALS = 3,
+    TOKEN_ALL = 4,
+    TOKEN_ANY = 5,
+    TOKEN_NOT = 6,
+    TOKEN_OPEN_PAREN = 7,
+    TOKEN_CLOSE_PAREN = 8,
+    TOKEN_COMMA = 9,
 }

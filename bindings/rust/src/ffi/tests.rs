@@ -1,7 +1,8 @@
 //! What the crate declares is what the header declares.
 
 use super::numbers::ALL;
-use super::{Fault, Predicate, Step};
+use super::{Fault, Predicate, Step, Token};
+use crate::error::{REASONS, Reason, TERM_LISTS};
 use std::fs;
 use std::mem::{offset_of, size_of};
 use std::path::Path;
@@ -41,12 +42,53 @@ fn laid_out<'a>(header: &'a str, name: &str) -> Vec<(&'a str, usize)> {
 
 #[test]
 fn the_numbers_are_those_of_the_header() {
-    assert_eq!(defined(&header()), ALL);
+    let header = header();
+    let mut numbers = defined(&header);
+    numbers.retain(|(name, _)| !name.starts_with("REASON_") && !name.starts_with("TERMS_"));
+    assert_eq!(numbers, ALL);
+}
+
+/// Returns the name that a header has for a reason.
+fn name_of(reason: &Reason) -> String {
+    let shown = format!("{reason:?}");
+    let words = shown.split('(').next().unwrap();
+    let spelled = words.chars().flat_map(|letter| {
+        let before = letter.is_uppercase().then_some('_');
+        before.into_iter().chain(letter.to_uppercase())
+    });
+    format!("REASON{}", spelled.collect::<String>())
+}
+
+#[test]
+fn the_reasons_are_those_of_the_header() {
+    let header = header();
+    let mut reasons = defined(&header);
+    reasons.retain(|(name, _)| name.starts_with("REASON_"));
+    assert_eq!(reasons.remove(0), ("REASON_NONE", 0));
+    let names: Vec<String> = REASONS.iter().map(name_of).collect();
+    let numbered: Vec<(&str, u32)> = names.iter().map(String::as_str).zip(1..).collect();
+    assert_eq!(reasons, numbered);
+}
+
+#[test]
+fn the_lists_of_terms_are_those_of_the_header() {
+    let header = header();
+    let definitions = header.split("\n#define CFGX_TERMS_").skip(1);
+    let lists: Vec<(usize, Vec<&str>)> = definitions
+        .map(|definition| {
+            let (definition, _) = definition.split_once("*/").unwrap();
+            let number = definition.split(' ').nth(1).unwrap().parse().unwrap();
+            (number, definition.split('`').skip(1).step_by(2).collect())
+        })
+        .collect();
+    let own = TERM_LISTS.iter().map(|list| list.to_vec());
+    assert_eq!(lists, (1..).zip(own).collect::<Vec<_>>());
 }
 
 #[test]
 fn the_structs_are_those_of_the_header() {
     let fault = [
+        ("item", offset_of!(Fault, item)),
         ("offset", offset_of!(Fault, offset)),
         ("start", offset_of!(Fault, start)),
         ("end", offset_of!(Fault, end)),
@@ -58,6 +100,8 @@ fn the_structs_are_those_of_the_header() {
     let predicate = [
         ("kind", offset_of!(Predicate, kind)),
         ("number", offset_of!(Predicate, number)),
+        ("start", offset_of!(Predicate, start)),
+        ("end", offset_of!(Predicate, end)),
         ("key_start", offset_of!(Predicate, key_start)),
         ("key_end", offset_of!(Predicate, key_end)),
         ("value_start", offset_of!(Predicate, value_start)),
@@ -69,4 +113,10 @@ fn the_structs_are_those_of_the_header() {
         ("count", offset_of!(Step, count)),
     ];
     assert_eq!(laid_out(&header(), "cfgx_step"), step);
+    let token = [
+        ("kind", offset_of!(Token, kind)),
+        ("start", offset_of!(Token, start)),
+        ("end", offset_of!(Token, end)),
+    ];
+    assert_eq!(laid_out(&header(), "cfgx_token"), token);
 }

@@ -26,6 +26,7 @@ macro_rules! field {
             #[doc = concat!("let owned = ", stringify!($name), "::new(String::from(\"a\"));")]
             #[doc = concat!("assert_eq!(owned, ", stringify!($name), "::new(\"a\"));")]
             /// ```
+            #[must_use]
             pub fn new(text: impl Into<Cow<'static, str>>) -> Self {
                 $name(text.into())
             }
@@ -39,6 +40,7 @@ macro_rules! field {
             #[doc = concat!("    ", stringify!($name), "::new_const(\"", $example, "\");")]
             #[doc = concat!("assert_eq!(FIELD.0, \"", $example, "\");")]
             /// ```
+            #[must_use]
             pub const fn new_const(text: &'static str) -> Self {
                 $name(Cow::Borrowed(text))
             }
@@ -51,6 +53,7 @@ macro_rules! field {
             #[doc = concat!("let field = ", stringify!($name), "::new_const(\"a\");")]
             /// assert_eq!(field.as_str(), "a");
             /// ```
+            #[must_use]
             pub fn as_str(&self) -> &str {
                 &self.0
             }

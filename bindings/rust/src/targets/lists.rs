@@ -39,6 +39,7 @@ macro_rules! list {
             )]
             #[doc = concat!("assert_eq!(list[0], ", $some, ");")]
             /// ```
+            #[must_use]
             pub fn new(items: impl IntoIterator<Item = $item>) -> Self {
                 let mut items: Vec<$item> = items.into_iter().collect();
                 items.sort_unstable();
@@ -56,6 +57,7 @@ macro_rules! list {
             #[doc = concat!("let list = ", stringify!($name), "::new_const(&ITEMS);")]
             #[doc = concat!("assert_eq!(list[0], ", $some, ");")]
             /// ```
+            #[must_use]
             pub const fn new_const(items: &'static [$item]) -> Self {
                 $name(Cow::Borrowed(items))
             }
@@ -102,6 +104,7 @@ impl Families {
     /// assert!(Families::unix.contains(&Family::unix));
     /// assert!(!Families::unix.contains(&Family::wasm));
     /// ```
+    #[must_use]
     pub fn contains(&self, family: &Family) -> bool {
         self.0.contains(family)
     }
@@ -116,6 +119,7 @@ impl HasAtomics {
     /// assert!(HasAtomics::atomic_8_16_32_ptr.contains(HasAtomic::Pointer));
     /// assert!(!HasAtomics::atomic_8_16_32_ptr.contains(HasAtomic::IntegerSize(64)));
     /// ```
+    #[must_use]
     pub fn contains(&self, width: HasAtomic) -> bool {
         self.0.contains(&width)
     }

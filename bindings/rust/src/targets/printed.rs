@@ -2,9 +2,9 @@
 
 use super::{Abi, Arch, Endian, Env, Families, Family, HasAtomic, HasAtomics};
 use super::{Os, Panic, TargetInfo, Triple, Vendor};
+use crate::audit::{Facts, audit};
 use crate::error::ParseError;
 use crate::expr::{Expression, Predicate, TargetPredicate};
-use crate::ffi;
 use std::collections::BTreeSet;
 use std::error::Error;
 use std::fmt;
@@ -141,16 +141,6 @@ fn found<T>(value: Option<T>, key: &'static str) -> Result<T, RustcCfgError> {
     value.ok_or(RustcCfgError::Missing { key })
 }
 
-/// Parses a line. Returns `None` if no condition can ask it: it is a key of `target_` that is not
-/// known, or a key without the value that it needs. Some compilers print such lines.
-fn parse_line(text: &str) -> Result<Option<Expression>, ParseError> {
-    match Expression::parse(text) {
-        Ok(condition) => Ok(Some(condition)),
-        Err(_) if !text.starts_with('?') && ffi::is_fact(text) => Ok(None),
-        Err(error) => Err(error),
-    }
-}
-
 impl TargetInfo {
     /// Returns the target that `lines` describe, which are what `rustc --print cfg --target TRIPLE`
     /// prints.
@@ -178,19 +168,25 @@ impl TargetInfo {
     /// # Ok::<(), cfgx::targets::RustcCfgError>(())
     /// ```
     pub fn from_rustc_cfg(triple: &str, lines: &str) -> Result<TargetInfo, RustcCfgError> {
+        let lines = || {
+            (1..)
+                .zip(lines.lines())
+                .filter(|(_, text)| !text.is_empty())
+        };
+        // A line before the first faulty fact is a condition, or one that no condition can ask,
+        // unless it begins with `?`.
+        let facts = Facts::new(lines().map(|(_, text)| text));
+        let faulty = audit(&[], &[facts]).err().map(|error| error.number);
         let mut values = Values::default();
-        for (number, text) in lines.lines().enumerate() {
-            if text.is_empty() {
-                continue;
+        for (number, (line, text)) in lines().enumerate() {
+            match Expression::parse(text) {
+                Ok(condition) => take_each(&mut values, condition.predicates())
+                    .map_err(|key| RustcCfgError::Twice { line, key })?,
+                Err(error) if faulty == Some(number) || text.starts_with('?') => {
+                    return Err(RustcCfgError::Faulty { line, error });
+                }
+                Err(_) => {}
             }
-            let line = number + 1;
-            let condition =
-                parse_line(text).map_err(|error| RustcCfgError::Faulty { line, error })?;
-            take_each(
-                &mut values,
-                condition.iter().flat_map(Expression::predicates),
-            )
-            .map_err(|key| RustcCfgError::Twice { line, key })?;
         }
         values.target(triple)
     }

@@ -1,13 +1,16 @@
-//! Targets of the `rustc` on the path.
+//! Targets of a `rustc` that is there when the program runs.
 
 use super::{RustcCfgError, TargetInfo};
 use crate::audit::Facts;
+use std::env;
 use std::error::Error;
+use std::ffi::{OsStr, OsString};
 use std::fmt;
 use std::io;
 use std::process::Command;
 
-/// What the `rustc` on the path says of some targets. It was asked of each once.
+/// What a `rustc` says of some targets, such as those of another compiler than the one that
+/// [`rustc_version`](super::rustc_version) names. It was asked of each once.
 ///
 /// ```no_run
 /// use cfgx::targets::Rustc;
@@ -29,7 +32,7 @@ pub struct Rustc {
 ///
 /// match Rustc::ask(["nowhere"]) {
 ///     Err(RustcError::Refused { triple, .. }) => assert_eq!(triple, "nowhere"),
-///     Err(RustcError::NotRun(_)) => println!("there is no rustc on the path"),
+///     Err(RustcError::NotRun(error)) => println!("there is no rustc: {error}"),
 ///     other => panic!("{other:?}"),
 /// }
 /// ```
@@ -77,7 +80,8 @@ impl Error for RustcError {
 }
 
 impl Rustc {
-    /// Asks the `rustc` on the path of each target.
+    /// Asks the program that the environment variable `RUSTC` names of each target, or else the
+    /// `rustc` on the path. Cargo takes the same one.
     ///
     /// # Errors
     ///
@@ -96,13 +100,36 @@ impl Rustc {
         I: IntoIterator,
         I::Item: AsRef<str>,
     {
+        let program = env::var_os("RUSTC").unwrap_or_else(|| OsString::from("rustc"));
+        Rustc::ask_program(program, triples)
+    }
+
+    /// Asks `program` of each target. It is the path of a `rustc`, or a name that is looked up on
+    /// the path.
+    ///
+    /// # Errors
+    ///
+    /// As those of [`ask`](Rustc::ask).
+    ///
+    /// ```no_run
+    /// use cfgx::targets::Rustc;
+    ///
+    /// let rustc = Rustc::ask_program("/opt/rust/bin/rustc", ["wasm32-unknown-unknown"])?;
+    /// assert_eq!(rustc.targets()[0].pointer_width, 32);
+    /// # Ok::<(), cfgx::targets::RustcError>(())
+    /// ```
+    pub fn ask_program<I>(program: impl AsRef<OsStr>, triples: I) -> Result<Rustc, RustcError>
+    where
+        I: IntoIterator,
+        I::Item: AsRef<str>,
+    {
         let mut rustc = Rustc {
             targets: Vec::new(),
             facts: Vec::new(),
         };
         for triple in triples {
             let triple = triple.as_ref();
-            let lines = printed_for(triple)?;
+            let lines = printed_by(program.as_ref(), triple)?;
             let target = TargetInfo::from_rustc_cfg(triple, &lines);
             let unread = |error| RustcError::Unread {
                 triple: triple.to_string(),
@@ -123,6 +150,7 @@ impl Rustc {
     /// assert_eq!(rustc.targets()[0].pointer_width, 32);
     /// # Ok::<(), cfgx::targets::RustcError>(())
     /// ```
+    #[must_use]
     pub fn targets(&self) -> &[TargetInfo] {
         &self.targets
     }
@@ -136,6 +164,7 @@ impl Rustc {
     /// assert!(rustc.target("wasm32-unknown-unknown").is_some());
     /// # Ok::<(), cfgx::targets::RustcError>(())
     /// ```
+    #[must_use]
     pub fn target(&self, triple: &str) -> Option<&TargetInfo> {
         self.targets
             .iter()
@@ -154,14 +183,15 @@ impl Rustc {
     /// assert_eq!(values.row(0), [Some(true), Some(false)]);
     /// # Ok::<(), cfgx::targets::RustcError>(())
     /// ```
+    #[must_use]
     pub fn facts(&self) -> &[Facts] {
         &self.facts
     }
 }
 
-/// Returns what `rustc --print cfg` prints for a target.
-fn printed_for(triple: &str) -> Result<String, RustcError> {
-    let output = Command::new("rustc")
+/// Returns what `--print cfg` of a program prints for a target.
+fn printed_by(program: &OsStr, triple: &str) -> Result<String, RustcError> {
+    let output = Command::new(program)
         .args(["--print", "cfg", "--target", triple])
         .output()
         .map_err(RustcError::NotRun)?;

@@ -1,7 +1,9 @@
 //! Audits.
 
 use super::engine;
+use cfgx::error::Reason;
 use cfgx::{Audit, Expression, FactError, Facts, Otherwise, audit, audit_with};
+use std::ops::Range;
 use std::panic::catch_unwind;
 
 #[test]
@@ -136,21 +138,51 @@ fn each_faulty_fact_is_named() {
     let texts = NO_FACTS.iter().cycle();
     let mut seen = 0;
     for ((target, number), text) in places.cycle().zip(texts).take(11 * NO_FACTS.len()) {
-        let fact = text.to_string();
         let error = audit(&[], &targets_with(text, target, number)).unwrap_err();
         assert_eq!(
             error.to_string(),
             format!("fact {number} of target {target} is faulty: {text}")
         );
-        let expected = FactError {
-            target,
-            number,
-            fact,
-        };
-        assert_eq!(error, expected);
+        let found = (error.target, error.number, error.fact.as_str());
+        assert_eq!(found, (target, number, *text));
         seen += 1;
     }
     assert_eq!(seen, 88);
+}
+
+/// Faulty facts, with the reason and the bytes at fault by `docs/RULES.md`. A `?` and a `cfg(` in
+/// front of what is faulty are bytes of the fact too.
+const FACT_FAULTS: [(&str, Reason, Range<usize>); 11] = [
+    ("", Reason::Empty, 0..0),
+    ("?", Reason::Empty, 1..1),
+    ("all(", Reason::UnclosedParens, 3..4),
+    ("?all(", Reason::UnclosedParens, 4..5),
+    ("cfg(all()", Reason::UnclosedParens, 7..8),
+    ("?cfg(all()", Reason::UnclosedParens, 8..9),
+    ("key)", Reason::UnopenedParens, 3..4),
+    ("a = \"é\")", Reason::UnopenedParens, 8..9),
+    ("not(a, b)", Reason::InvalidNot(2), 0..9),
+    ("?not()", Reason::InvalidNot(0), 1..6),
+    (
+        "\"x\"",
+        Reason::Unexpected(&["<key>", "all", "any", "not"]),
+        0..3,
+    ),
+];
+
+#[test]
+fn a_faulty_fact_has_its_reason_and_the_bytes_at_fault() {
+    for (fact, reason, span) in FACT_FAULTS {
+        let targets = [Facts::new(["unix"]), Facts::new(["test", fact])];
+        let expected = FactError {
+            target: 1,
+            number: 1,
+            fact: fact.to_string(),
+            reason,
+            span,
+        };
+        assert_eq!(audit(&[], &targets), Err(expected));
+    }
 }
 
 #[test]
@@ -174,10 +206,15 @@ fn the_first_faulty_fact_is_named() {
 fn nothing_to_audit() {
     let condition = Expression::parse("unix").unwrap();
     let values = audit(&[condition], &[]).unwrap();
+    assert_eq!((values.condition_count(), values.target_count()), (1, 0));
     assert_eq!(values.row(0), []);
-    assert_eq!(values.row(usize::MAX), []);
-    assert!(audit(&[], &[Facts::new(["unix"])]).is_ok());
-    assert!(audit(&[], &[]).is_ok());
+    for number in [1, usize::MAX] {
+        let said = panic_of(&values, |values| values.row(number).len());
+        assert_eq!(said, format!("no condition has the number {number}"));
+    }
+    let values = audit(&[], &[Facts::new(["unix"])]).unwrap();
+    assert_eq!((values.condition_count(), values.target_count()), (0, 1));
+    assert_ne!(Ok(values), audit(&[], &[]));
 }
 
 /// Lists of facts. The last one has the texts of the one before it in one fact.
@@ -189,11 +226,24 @@ fn facts_are_the_texts_in_order() {
         let facts = Facts::new(list);
         let found: Vec<&str> = (0..facts.len()).filter_map(|one| facts.get(one)).collect();
         assert_eq!(found, list);
+        assert_eq!(facts.iter().collect::<Vec<&str>>(), list);
+        assert_eq!(facts.iter().len(), list.len());
+        assert!(facts.iter().rev().eq(list.iter().rev().copied()));
+        assert_eq!(list.iter().copied().collect::<Facts>(), facts);
+        assert_eq!(format!("{facts:?}"), format!("{list:?}"));
         assert_eq!(facts.get(list.len()), None);
         assert_eq!(facts.is_empty(), list.is_empty(), "{list:?}");
         let equal = LISTS.map(|other| Facts::new(other) == facts);
         assert_eq!(equal, LISTS.map(|other| other == list));
     }
+}
+
+#[test]
+fn facts_are_added_behind_those_that_are_there() {
+    let mut facts = Facts::new(["unix"]);
+    facts.extend([String::from("test"), String::new()]);
+    facts.extend(Some(&"loom"));
+    assert_eq!(facts, Facts::new(["unix", "test", "", "loom"]));
 }
 
 /// Returns the values of two conditions on two targets.
@@ -203,9 +253,8 @@ fn two_by_two() -> Audit {
 }
 
 /// Returns what the call says when it panics, or an empty text if it does not.
-fn panic_of(call: impl Fn(&Audit) -> Option<bool>) -> String {
-    let values = two_by_two();
-    let call = std::panic::AssertUnwindSafe(|| call(&values));
+fn panic_of<T>(values: &Audit, call: impl Fn(&Audit) -> T) -> String {
+    let call = std::panic::AssertUnwindSafe(|| call(values));
     let payload = catch_unwind(call).err();
     let text = payload.and_then(|payload| payload.downcast::<String>().ok());
     text.map_or(String::new(), |text| *text)
@@ -216,20 +265,27 @@ const HALF: usize = usize::MAX / 2 + 1;
 
 #[test]
 fn conditions_that_are_not_there_panic() {
-    assert_eq!(panic_of(|values| values.row(1)[1]), "");
+    let values = two_by_two();
+    assert_eq!((values.condition_count(), values.target_count()), (2, 2));
+    assert_eq!(panic_of(&values, |values| values.row(1)[1]), "");
     for condition in [2, 3, HALF, HALF + 1, usize::MAX] {
         let expected = format!("no condition has the number {condition}");
-        assert_eq!(panic_of(|values| values.row(condition)[0]), expected);
-        assert_eq!(panic_of(|values| values.value(condition, 0)), expected);
+        let said = panic_of(&values, |values| values.row(condition)[0]);
+        assert_eq!(said, expected);
+        let said = panic_of(&values, |values| values.value(condition, 0));
+        assert_eq!(said, expected);
     }
 }
 
 #[test]
 fn targets_that_are_not_there_panic() {
-    assert_eq!(panic_of(|values| values.value(1, 1)), "");
+    let values = two_by_two();
+    assert_eq!(panic_of(&values, |values| values.value(1, 1)), "");
     for target in [2, 3, HALF, usize::MAX] {
         let expected = format!("no target has the number {target}");
-        assert_eq!(panic_of(|values| values.value(0, target)), expected);
-        assert_eq!(panic_of(|values| values.value(1, target)), expected);
+        for condition in [0, 1] {
+            let said = panic_of(&values, |values| values.value(condition, target));
+            assert_eq!(said, expected);
+        }
     }
 }

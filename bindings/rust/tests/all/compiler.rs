@@ -1,15 +1,27 @@
 //! `Rustc` over a program that stands in for `rustc`, which the target tells what to print, and
-//! over none.
+//! over none. The program is on the path, or named.
 
 use super::child;
 use cfgx::targets::{Rustc, RustcCfgError, RustcError};
 use std::error::Error;
-use std::path::Path;
+use std::path::{Path, PathBuf};
+use std::process::Command;
+
+/// Returns the path of a folder of the crate.
+fn path_of(folder: &str) -> PathBuf {
+    Path::new(env!("CARGO_MANIFEST_DIR")).join(folder)
+}
+
+/// Returns the command that runs an ignored test in a process whose path has this folder alone.
+fn command_with_path(folder: &str, test: &str) -> Command {
+    let mut command = child::command_of(test);
+    command.env("PATH", path_of(folder)).env_remove("RUSTC");
+    command
+}
 
 /// Runs an ignored test in a process whose path has this folder alone.
 fn pass_with_path(folder: &str, test: &str) {
-    let path = Path::new(env!("CARGO_MANIFEST_DIR")).join(folder);
-    child::pass(child::command_of(test).env("PATH", path));
+    child::pass(&mut command_with_path(folder, test));
 }
 
 /// Returns the lines that the program prints for a target that has its name as architecture.
@@ -133,4 +145,25 @@ fn what_rustc_refuses_is_an_error() {
 #[test]
 fn without_rustc_there_is_an_error() {
     pass_with_path("tests/fake", "compiler::is_not_there");
+}
+
+#[test]
+fn the_variable_names_the_program() {
+    let program = path_of("tests/fake/rustc/rustc");
+    let mut asked = command_with_path("tests/fake", "compiler::is_asked_of_targets");
+    child::pass(asked.env("RUSTC", program));
+    let mut missing = command_with_path("tests/fake/rustc", "compiler::is_not_there");
+    child::pass(missing.env("RUSTC", path_of("tests/fake/rustc/none")));
+    // Cargo takes an empty name too, and fails.
+    let mut empty = command_with_path("tests/fake/rustc", "compiler::is_not_there");
+    child::pass(empty.env("RUSTC", ""));
+}
+
+#[test]
+fn a_program_is_asked_by_its_path() {
+    let program = path_of("tests/fake/rustc/rustc");
+    let rustc = Rustc::ask_program(&program, ["one"]).unwrap();
+    assert_eq!(rustc.targets()[0].arch.as_str(), "one");
+    let none = Rustc::ask_program(path_of("tests/fake/rustc/none"), ["one"]);
+    assert!(matches!(none, Err(RustcError::NotRun(_))), "{none:?}");
 }

@@ -3,7 +3,7 @@
 use cfgx as cfg_expr;
 
 use cfg_expr::targets::{
-    Arch, Endian, Env, Families, HasAtomics, Os, Panic, TargetInfo, Triple, Vendor,
+    Abi, Arch, Endian, Env, Families, HasAtomics, Os, Panic, TargetInfo, Triple, Vendor,
     get_builtin_target_by_triple,
 };
 use cfg_expr::{Expression, Predicate};
@@ -64,46 +64,49 @@ fn windows(triple: &'static str, vendor: Vendor) -> TargetInfo {
     }
 }
 
+/// Returns the value of the condition on a target, with this feature of the package.
+fn value_on(target: &TargetInfo, feature: &str) -> bool {
+    let avail_targ_feats = ["fxsr", "sse", "sse2"];
+    let specific = Expression::parse(CONDITION).unwrap();
+    specific.eval(|pred| match pred {
+        Predicate::Target(tp) => tp.matches(target),
+        Predicate::TargetFeature(feat) => avail_targ_feats.contains(feat),
+        Predicate::Feature(feat) => *feat == feature,
+        _ => false,
+    })
+}
+
 #[test]
 fn the_example_has_its_values() {
-    let specific = Expression::parse(CONDITION).unwrap();
-
-    let x86_win = TargetInfo::from_rustc_cfg("i686-pc-windows-msvc", LINES).unwrap();
-    assert_eq!(x86_win, windows("i686-pc-windows-msvc", Vendor::pc));
-    let x86_pentium_win = windows("i586-pc-windows-msvc", Vendor::pc);
-    let uwp_win = windows("i686-uwp-windows-msvc", Vendor::uwp);
-    let mac = get_builtin_target_by_triple("aarch64-apple-darwin").unwrap();
-
-    let avail_targ_feats = ["fxsr", "sse", "sse2"];
-
+    let x86_win = get_builtin_target_by_triple("i686-pc-windows-msvc").unwrap();
     // This satisfies all requirements
-    assert!(specific.eval(|pred| match pred {
-        Predicate::Target(tp) => tp.matches(&x86_win),
-        Predicate::TargetFeature(feat) => avail_targ_feats.contains(feat),
-        Predicate::Feature(feat) => *feat == "cool_thing",
-        _ => false,
-    }));
+    assert!(value_on(x86_win, "cool_thing"));
 
-    // This lacks the feature `cool_thing`
-    assert!(!specific.eval(|pred| match pred {
-        Predicate::Target(tp) => tp.matches(&x86_pentium_win),
-        Predicate::TargetFeature(feat) => avail_targ_feats.contains(feat),
-        _ => false,
-    }));
+    // This lacks the feature `cool_thing`. rustc 1.95 does not have this target.
+    let x86_pentium_win = windows("i586-pc-windows-msvc", Vendor::pc);
+    assert!(!value_on(&x86_pentium_win, ""));
+    assert!(value_on(&x86_pentium_win, "cool_thing"));
 
     // This has the vendor `uwp`
-    assert!(!specific.eval(|pred| match pred {
-        Predicate::Target(tp) => tp.matches(&uwp_win),
-        Predicate::TargetFeature(feat) => avail_targ_feats.contains(feat),
-        Predicate::Feature(feat) => *feat == "cool_thing",
-        _ => false,
-    }));
+    let uwp_win = get_builtin_target_by_triple("i686-uwp-windows-msvc").unwrap();
+    assert!(!value_on(uwp_win, "cool_thing"));
 
     // This is no Windows
-    assert!(!specific.eval(|pred| match pred {
-        Predicate::Target(tp) => tp.matches(mac),
-        Predicate::TargetFeature(feat) => avail_targ_feats.contains(feat),
-        Predicate::Feature(feat) => *feat == "cool_thing",
-        _ => false,
-    }));
+    let mac = get_builtin_target_by_triple("x86_64-apple-darwin").unwrap();
+    assert!(!value_on(mac, "cool_thing"));
+}
+
+#[test]
+fn the_targets_of_the_example_are_built_in() {
+    let triple = "i686-pc-windows-msvc";
+    let made = windows(triple, Vendor::pc);
+    assert_eq!(TargetInfo::from_rustc_cfg(triple, LINES).unwrap(), made);
+    assert_eq!(get_builtin_target_by_triple(triple), Some(&made));
+
+    let triple = "i686-uwp-windows-msvc";
+    let made = TargetInfo {
+        abi: Some(Abi::uwp),
+        ..windows(triple, Vendor::uwp)
+    };
+    assert_eq!(get_builtin_target_by_triple(triple), Some(&made));
 }

@@ -1,7 +1,16 @@
 //! Calls of the engine that the crate does not use, as `crates/cfgx_c/include/cfgx.h` declares
 //! them.
 //!
-//! Each block passes slices with their lengths, and counts that are borrowed for the call alone.
+//! Each block passes slices with their lengths, and counts and a fault that are borrowed for the
+//! call alone.
+
+/// `struct cfgx_fault`, which no test looks at.
+#[repr(C)]
+#[derive(Default)]
+struct Fault {
+    _places: [usize; 5],
+    _numbers: [u32; 2],
+}
 
 unsafe extern "C" {
     fn cfgx_value(
@@ -10,6 +19,7 @@ unsafe extern "C" {
         answers: *const u8,
         answer_count: usize,
         value: *mut u8,
+        fault: *mut Fault,
     ) -> u32;
 
     fn cfgx_explain(
@@ -18,6 +28,7 @@ unsafe extern "C" {
         message: *mut u8,
         room: usize,
         needed: *mut usize,
+        fault: *mut Fault,
     ) -> u32;
 
     fn cfgx_answers(
@@ -31,6 +42,7 @@ unsafe extern "C" {
         answers: *mut u8,
         room: usize,
         needed: *mut usize,
+        fault: *mut Fault,
     ) -> u32;
 
     fn cfgx_run(
@@ -96,6 +108,7 @@ pub fn value(text: &str, answers: &[Option<bool>]) -> Option<bool> {
             answers.as_ptr(),
             answers.len(),
             &mut value,
+            &mut Fault::default(),
         )
     };
     assert_eq!(status, 0, "{text}");
@@ -112,6 +125,7 @@ pub fn explain(text: &str) -> Option<String> {
             buffer.as_mut_ptr(),
             buffer.len(),
             needed,
+            &mut Fault::default(),
         )
     });
     assert!(status < 2, "{text}");
@@ -135,6 +149,7 @@ pub fn answers(text: &str, facts: &[&str]) -> Vec<Option<bool>> {
             buffer.as_mut_ptr(),
             buffer.len(),
             needed,
+            &mut Fault::default(),
         )
     });
     assert_eq!(status, 0, "{text} {facts}");

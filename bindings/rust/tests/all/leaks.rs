@@ -1,6 +1,7 @@
 //! A run under valgrind, which finds no leak and no wrong access.
 
 use super::child;
+use cfgx::expr::lexer::Lexer;
 use cfgx::targets::TargetInfo;
 use cfgx::{Expression, Facts, audit};
 use std::env;
@@ -25,7 +26,11 @@ fn calls_that_are_watched() {
     let long = format!("all({})", "unix, any(key = \"x\"), ".repeat(100));
     for text in ["cfg(all(unix, not(feature = \"x\")))", &long] {
         call_with(Expression::parse(text).unwrap());
+        assert!(Lexer::new(text).all(|item| item.is_ok()));
+        assert!(Lexer::new(text).next().is_some());
     }
+    assert!(Lexer::new("a \"b").last().unwrap().is_err());
+    assert!(Lexer::new("a 8").next().unwrap().is_ok());
     let faults = ["not()", "all(", "a b"].map(|text| Expression::parse(text).is_err());
     assert_eq!(faults, [true; 3]);
     assert!(TargetInfo::from_rustc_cfg("mine", "unix\ntarget_thread_local").is_err());

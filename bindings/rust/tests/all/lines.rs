@@ -230,6 +230,26 @@ fn lines_that_are_faulty() {
     }
 }
 
+#[test]
+fn lines_behind_others_that_are_passed_over() {
+    let passed_over = PASSED_OVER.join("\n");
+    let lines = LINES.join("\n");
+    for text in FAULTY {
+        let error = Expression::parse(text).unwrap_err();
+        let line = PASSED_OVER.len() + 1;
+        let expected = RustcCfgError::Faulty { line, error };
+        for behind in FAULTY {
+            let read = format!("{passed_over}\n{text}\n{behind}\n{lines}");
+            let found = TargetInfo::from_rustc_cfg("mine", &read);
+            assert_eq!(found.as_ref(), Err(&expected), "{behind:?}");
+        }
+    }
+    let (key, line) = ("target_arch", 2);
+    let read = "target_arch=\"arm\"\ntarget_arch=\"x86\"\nall(\n";
+    let twice = TargetInfo::from_rustc_cfg("mine", read);
+    assert_eq!(twice, Err(RustcCfgError::Twice { line, key }));
+}
+
 /// Lines of a target without an operating system, with lines that no condition can ask.
 const BARE: &str = "panic=\"abort\"\ntarget_abi=\"\"\ntarget_arch=\"arm\"\ntarget_endian=\"big\"\n\
     target_env=\"\"\ntarget_has_atomic\ntarget_has_atomic=\"32\"\ntarget_has_atomic=\"8\"\n\

@@ -6,17 +6,32 @@ use std::fs;
 use std::path::{Path, PathBuf};
 use std::process::Command;
 
-/// What the program `tests/fake/calls.rs` prints, with the calls that it makes.
+/// What the program `tests/fake/calls.rs` prints, with the calls that it makes and the rooms of
+/// `cfgx_compile` and `cfgx_tokens`.
 const PRINTED: &str = "\
-cfgx_compile
+cfgx_compile 128 128
 cfgx_decide
 decided Known(true)
-cfgx_compile
-cfgx_check
+cfgx_tokens 0
+lexed 0 and 0
+cfgx_tokens 1
+lexed 0 and 1
+cfgx_tokens 64
+lexed 64 and 0
+cfgx_tokens 64
+cfgx_tokens 65
+lexed 65 and 1
+cfgx_compile 128 128
 parsed false
-cfgx_compile
-cfgx_check
-cfgx_answers
+cfgx_compile 128 128
+parsed true
+cfgx_compile 128 128
+parsed true
+cfgx_compile 128 128
+cfgx_compile 129 0
+parsed true
+cfgx_audit
+cfgx_compile 128 128
 read false
 cfgx_audit
 audited true
@@ -33,8 +48,9 @@ audited true
 /// The versions of libraries, and whether this crate takes them: those of the same language and the
 /// same major version, whose minor version is no lower.
 const VERSIONS: &[(&str, bool)] = &[
-    ("2002000", true),
+    ("2002000", false),
     ("2002001", true),
+    ("2002002", true),
     ("2002999", true),
     ("2001999", false),
     ("2000000", false),

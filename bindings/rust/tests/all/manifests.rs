@@ -1,12 +1,13 @@
-//! The manifests of `docs/RUST.md`, each that of a program in a folder of its own.
+//! The manifests of `docs/RUST.md`, each that of a program in a folder of its own. `patched.rs` has
+//! the last one.
 
 use super::programs;
 use std::fs;
 use std::path::Path;
 use std::process::Command;
 
-/// Returns the blocks of the page that are manifests.
-fn blocks() -> Vec<String> {
+/// Returns the blocks of the page that are manifests, or parts of one.
+pub fn blocks() -> Vec<String> {
     let path = Path::new(env!("CARGO_MANIFEST_DIR")).join("../../docs/RUST.md");
     let page = fs::read_to_string(path).unwrap();
     let starts = page.split("```toml\n").skip(1);
@@ -26,8 +27,8 @@ fn check(folder: &Path, manifest: &str, name: &str) {
 #[test]
 fn each_manifest_of_the_page_builds() {
     let folder = programs::folder_in(&programs::room("manifests"));
-    let [own_name, old_name] = &blocks()[..] else {
-        panic!("the page does not have two manifests")
+    let [own_name, old_name, _] = &blocks()[..] else {
+        panic!("the page does not have three manifests")
     };
     check(&folder, own_name, "cfgx");
     check(&folder, old_name, "cfg_expr");

@@ -4,6 +4,7 @@
 use cfgx::expr::TargetPredicate;
 use cfgx::targets::{Abi, Arch, Endian, Env, Family, HasAtomic, Os, Panic, Vendor};
 use cfgx::{Expression, Predicate};
+use std::collections::HashSet;
 
 /// Texts of values, with white space at their ends, and some that named values have.
 const TEXTS: &[&str] = &[
@@ -149,4 +150,21 @@ fn widths_of_atomics() {
     }
     let expected = Predicate::Target(TargetPredicate::HasAtomic(HasAtomic::Pointer));
     check("target_has_atomic = \"ptr\"", &expected);
+}
+
+#[test]
+fn a_set_has_each_predicate_once() {
+    let text = "all(a, b = \"1\", unix, target_os = \"x\", not(a), b = \"1\", unix, a = \"1\")";
+    let expression = Expression::parse(text).unwrap();
+    let found: HashSet<Predicate<'_>> = expression.predicates().collect();
+    let key_value = |key| Predicate::KeyValue { key, val: "1" };
+    let expected = [
+        Predicate::Flag("a"),
+        key_value("b"),
+        key_value("a"),
+        Predicate::Target(TargetPredicate::Family(Family::new(String::from("unix")))),
+        Predicate::Target(TargetPredicate::Os(Os::new_const("x"))),
+    ];
+    assert_eq!(found, HashSet::from(expected));
+    assert_eq!(found.len(), 5);
 }

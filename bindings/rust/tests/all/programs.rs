@@ -34,26 +34,39 @@ pub fn folder_in(room: &Path) -> PathBuf {
 /// Builds a program with these dependencies, and returns its path. `library` is the folder of the
 /// library, if it is not the one that is linked here.
 pub fn built(folder: &Path, dependencies: &str, code: &str, library: Option<&Path>) -> PathBuf {
-    fs::write(folder.join("src/main.rs"), code).unwrap();
-    fs::write(
-        folder.join("Cargo.toml"),
-        format!("{PACKAGE}{dependencies}"),
-    )
-    .unwrap();
-    let target = folder.join("target");
-    let mut command = Command::new(env!("CARGO"));
-    command
-        .args(["build", "--quiet", "--offline"])
-        .env("CARGO_TARGET_DIR", &target)
-        .envs(library.map(|library| ("CFGX_LIB_DIR", library)))
-        .current_dir(folder);
-    succeed(&mut command);
-    target.join("debug/mine")
+    write(folder, dependencies, code);
+    let mut command = cargo(folder, &["build", "--quiet"]);
+    succeed(command.envs(library.map(|library| ("CFGX_LIB_DIR", library))));
+    path_in(folder)
 }
 
-/// Panics unless the command succeeds.
-pub fn succeed(command: &mut Command) {
+/// Writes the manifest and the code of a program.
+pub fn write(folder: &Path, dependencies: &str, code: &str) {
+    fs::write(folder.join("src/main.rs"), code).unwrap();
+    let manifest = format!("{PACKAGE}{dependencies}");
+    fs::write(folder.join("Cargo.toml"), manifest).unwrap();
+}
+
+/// Returns the path of the program that Cargo builds in `folder`.
+pub fn path_in(folder: &Path) -> PathBuf {
+    folder.join("target/debug/mine")
+}
+
+/// Returns the command that runs Cargo in `folder`, without the network.
+pub fn cargo(folder: &Path, words: &[&str]) -> Command {
+    let mut command = Command::new(env!("CARGO"));
+    command
+        .args(words)
+        .arg("--offline")
+        .env("CARGO_TARGET_DIR", folder.join("target"))
+        .current_dir(folder);
+    command
+}
+
+/// Panics unless the command succeeds. Returns what it writes to its standard error.
+pub fn succeed(command: &mut Command) -> String {
     let output = command.output().unwrap();
-    let said = String::from_utf8_lossy(&output.stderr);
+    let said = String::from_utf8_lossy(&output.stderr).into_owned();
     assert!(output.status.success(), "{command:?}: {said}");
+    said
 }

@@ -20,7 +20,7 @@ fn parsed(text: &str) -> (u32, String) {
 }
 
 /// Returns the recorded rows: a text, a status, and an output.
-fn rows() -> Vec<[String; 3]> {
+pub fn rows() -> Vec<[String; 3]> {
     let file = read_file("rust_crate.tsv");
     let lines = file.lines().filter(|line| !line.starts_with("# "));
     let fields = |line: &str| -> Vec<String> { line.split('\t').map(unescape).collect() };

@@ -1,11 +1,14 @@
-//! Every target of the `rustc` on the path.
+//! Every target of the `rustc` on the path: what it meets, and that it is built in as this compiler
+//! describes it.
 
 use super::{child, engine};
 use cfgx::expr::Predicate;
-use cfgx::targets::Rustc;
-use cfgx::{Expression, audit};
+use cfgx::targets::{
+    ALL_BUILTINS, Rustc, builtin_facts, get_builtin_target_by_triple, rustc_version,
+};
+use cfgx::{Expression, Facts, audit};
 use std::process::Command;
-use std::sync::atomic::{AtomicUsize, Ordering};
+use std::sync::Mutex;
 use std::thread;
 
 /// Asks for each key of a target, with values that some targets have.
@@ -16,26 +19,34 @@ const CONDITION: &str = r#"any(unix, windows, target_family = "wasm", target_os 
     target_pointer_width = "16", target_pointer_width = "64", target_has_atomic = "8",
     target_has_atomic = "64", target_has_atomic = "ptr", panic = "abort", panic = "unwind")"#;
 
-/// Returns the triples of all targets of the `rustc` on the path.
-fn triples() -> Vec<String> {
-    let output = Command::new("rustc")
-        .args(["--print", "target-list"])
-        .output()
-        .unwrap();
+/// Returns what the `rustc` on the path prints with these words.
+fn printed(words: &[&str]) -> String {
+    let output = Command::new("rustc").args(words).output().unwrap();
     assert!(output.status.success(), "{output:?}");
-    let list = String::from_utf8(output.stdout).unwrap();
-    list.lines().map(str::to_string).collect()
+    String::from_utf8(output.stdout).unwrap()
+}
+
+/// Returns the version of the `rustc` on the path.
+fn version() -> String {
+    let printed = printed(&["-vV"]);
+    let mut lines = printed.lines();
+    let release = lines.find_map(|line| line.strip_prefix("release: "));
+    release.unwrap().to_string()
+}
+
+/// Returns the lines of facts.
+fn lines_of(facts: &Facts) -> Vec<&str> {
+    (0..facts.len())
+        .filter_map(|number| facts.get(number))
+        .collect()
 }
 
 /// Panics unless what each target meets is what the engine answers by the facts of the target.
-/// Returns the number of targets.
-fn check(triples: &[String]) -> usize {
+fn check(rustc: &Rustc, triples: &[String]) {
     let expression = Expression::parse(CONDITION).unwrap();
-    let rustc = Rustc::ask(triples).unwrap();
     let values = audit(std::slice::from_ref(&expression), rustc.facts()).unwrap();
     for (place, target) in rustc.targets().iter().enumerate() {
-        let facts = &rustc.facts()[place];
-        let lines: Vec<&str> = (0..facts.len()).filter_map(|one| facts.get(one)).collect();
+        let lines = lines_of(&rustc.facts()[place]);
         let met: Vec<Option<bool>> = expression
             .predicates()
             .map(|predicate| match predicate {
@@ -47,22 +58,78 @@ fn check(triples: &[String]) -> usize {
         assert_eq!(values.value(0, place), engine::value(CONDITION, &met));
         assert_eq!(rustc.target(&triples[place]), Some(target));
     }
-    rustc.targets().len()
+}
+
+/// Panics unless the facts of the built-in targets are those of `rustc`, but for `crt-static`,
+/// which it does not print to Cargo.
+fn check_facts(rustc: &Rustc) {
+    for (target, printed) in rustc.targets().iter().zip(rustc.facts()) {
+        let built_in = builtin_facts(target.triple.as_str()).unwrap();
+        let mut printed = lines_of(printed);
+        printed.retain(|line| *line != "target_feature=\"crt-static\"");
+        assert_eq!(lines_of(&built_in), printed, "{}", target.triple);
+    }
+}
+
+/// Returns those targets of `rustc` that are built in, each with whether all of its fields are.
+fn compared(rustc: &Rustc) -> Vec<(String, bool)> {
+    let shared = rustc.targets().iter().filter_map(|target| {
+        let triple = target.triple.as_str();
+        let built_in = get_builtin_target_by_triple(triple)?;
+        Some((triple.to_string(), built_in == target))
+    });
+    shared.collect()
+}
+
+/// Panics unless the built-in targets are those of the compiler that was asked. Those of another
+/// version may differ somewhat, which is told.
+fn check_built_in(compared: &[(String, bool)], triples: &[String]) {
+    let differing: Vec<&str> = compared
+        .iter()
+        .filter_map(|(triple, is_same)| (!is_same).then_some(triple.as_str()))
+        .collect();
+    let (version, own) = (version(), rustc_version());
+    if version == own {
+        let built_in: Vec<&str> = ALL_BUILTINS.iter().map(|one| one.triple.as_str()).collect();
+        assert_eq!(built_in, triples);
+        assert_eq!(differing, [""; 0]);
+        return;
+    }
+    let (own_count, count, shared) = (ALL_BUILTINS.len(), triples.len(), compared.len());
+    println!(
+        "skipped: the built-in targets are those of rustc {own}, and here is {version}, so only \
+         {shared} of {own_count} were compared with its {count}; {} differ: {differing:?}",
+        differing.len()
+    );
+    assert!(shared * 10 > own_count * 9, "{shared} of {own_count}");
+    assert!(differing.len() * 10 < shared, "{differing:?}");
 }
 
 #[test]
-fn every_target_meets_what_the_engine_answers() {
+fn every_target_of_the_compiler() {
     if !child::is_there("rustc", "no target of a compiler was looked at") {
         return;
     }
-    let triples = triples();
+    let list = printed(&["--print", "target-list"]);
+    let mut triples: Vec<String> = list.lines().map(str::to_string).collect();
+    triples.sort_unstable();
     assert!(triples.iter().any(|one| one == "x86_64-unknown-linux-gnu"));
     let count = thread::available_parallelism().map_or(1, usize::from);
-    let checked = AtomicUsize::new(0);
+    let is_own = version() == rustc_version();
+    let all = Mutex::new(Vec::new());
+    let all_compared = &all;
     thread::scope(|scope| {
         for part in triples.chunks(triples.len().div_ceil(count)) {
-            scope.spawn(|| checked.fetch_add(check(part), Ordering::Relaxed));
+            scope.spawn(move || {
+                let rustc = Rustc::ask_program("rustc", part).unwrap();
+                assert_eq!(rustc.targets().len(), part.len());
+                check(&rustc, part);
+                if is_own {
+                    check_facts(&rustc);
+                }
+                all_compared.lock().unwrap().extend(compared(&rustc));
+            });
         }
     });
-    assert_eq!(checked.into_inner(), triples.len());
+    check_built_in(&all.into_inner().unwrap(), &triples);
 }

@@ -18,7 +18,7 @@ struct Row {
     searched: &'static [&'static str],
     linked: &'static [&'static str],
     /// What Cargo watches beside the script: the archives that are linked, and the folders of the
-    /// repository if archives are looked for there.
+    /// package and of the repository that are there and have none.
     watched: &'static [&'static str],
 }
 
@@ -28,8 +28,12 @@ const OWN_FOLDER: &str = "repository/out/cfgx/lib";
 const OWN_BUILT: &str = "repository/crates/cfgx_c/out/libcfgx_c.a";
 const OWN_BUILT_FOLDER: &str = "repository/crates/cfgx_c/out";
 
-/// The rows, by the README of the crate: `CFGX_LIB_DIR`, `pkg-config`, `out/cfgx/lib` and
-/// `crates/cfgx_c/out` in this order, and no other place if the first is set.
+/// Where the package has an archive.
+const PACKED: &str = "repository/bindings/rust/lib/libcfgx.a";
+const PACKED_FOLDER: &str = "repository/bindings/rust/lib";
+
+/// The rows, by the README of the crate: `CFGX_LIB_DIR`, the package, `pkg-config`, `out/cfgx/lib`
+/// and `crates/cfgx_c/out` in this order, and no other place if the first is set.
 const ROWS: &[Row] = &[
     Row {
         named: Some("named"),
@@ -38,6 +42,7 @@ const ROWS: &[Row] = &[
             "named/libcfgx.a",
             "named/libcfgx_c.a",
             "known/libcfgx.a",
+            PACKED,
             OWN,
         ],
         searched: &["named"],
@@ -71,18 +76,34 @@ const ROWS: &[Row] = &[
     Row {
         named: Some("named"),
         programs: &["pkg-config", "rt"],
-        archives: &["named/cfgx.a", "known/libcfgx.a", OWN, OWN_BUILT],
+        archives: &["named/cfgx.a", "known/libcfgx.a", PACKED, OWN, OWN_BUILT],
         searched: &[],
         linked: &[],
         watched: &[],
     },
     Row {
-        named: Some(""),
+        named: Some("repository/out/cfgx/lib"),
         programs: &["pkg-config"],
-        archives: &["known/libcfgx.a", OWN],
+        archives: &["known/libcfgx.a", PACKED],
         searched: &[],
         linked: &[],
         watched: &[],
+    },
+    Row {
+        named: None,
+        programs: &["pkg-config"],
+        archives: &["known/libcfgx.a", PACKED, OWN],
+        searched: &[PACKED_FOLDER],
+        linked: &["cfgx"],
+        watched: &[PACKED],
+    },
+    Row {
+        named: None,
+        programs: &["pkg-config"],
+        archives: &["known/libcfgx.a", "repository/bindings/rust/lib/libcfgx.so"],
+        searched: &["known"],
+        linked: &["cfgx"],
+        watched: &[PACKED_FOLDER, "known/libcfgx.a"],
     },
     Row {
         named: None,
@@ -98,7 +119,7 @@ const ROWS: &[Row] = &[
         archives: &["known/libcfgx_c.a", OWN, OWN_BUILT],
         searched: &[OWN_FOLDER],
         linked: &["cfgx"],
-        watched: &[OWN_BUILT_FOLDER, OWN_FOLDER, OWN],
+        watched: &[OWN],
     },
     Row {
         named: None,
@@ -106,7 +127,7 @@ const ROWS: &[Row] = &[
         archives: &["known/libcfgx.a", OWN, OWN_BUILT],
         searched: &[OWN_FOLDER],
         linked: &["cfgx"],
-        watched: &[OWN_BUILT_FOLDER, OWN_FOLDER, OWN],
+        watched: &[OWN],
     },
     Row {
         named: None,
@@ -114,7 +135,15 @@ const ROWS: &[Row] = &[
         archives: &["known/libcfgx.a", OWN_BUILT],
         searched: &[OWN_BUILT_FOLDER, "kit/c"],
         linked: &["cfgx_c", "libc_c"],
-        watched: &[OWN_BUILT_FOLDER, OWN_FOLDER, OWN_BUILT],
+        watched: &[OWN_BUILT],
+    },
+    Row {
+        named: None,
+        programs: &["rt"],
+        archives: &["repository/out/cfgx/lib/libcfgx.so", OWN_BUILT],
+        searched: &[OWN_BUILT_FOLDER, "kit/c"],
+        linked: &["cfgx_c", "libc_c"],
+        watched: &[OWN_FOLDER, OWN_BUILT],
     },
     Row {
         named: None,
@@ -122,7 +151,7 @@ const ROWS: &[Row] = &[
         archives: &["named/libcfgx.a", "kit/c/liblibc_c.a"],
         searched: &[],
         linked: &[],
-        watched: &[OWN_BUILT_FOLDER, OWN_FOLDER],
+        watched: &[],
     },
 ];
 
@@ -137,24 +166,30 @@ fn make_room(room: &Path, archives: &[&str]) {
     }
 }
 
-/// Returns what the script prints in a room.
-fn printed_in(room: &Path, script: &Path, row: &Row) -> String {
+/// What Cargo tells the script of a target that the library is for.
+const SERVED: [(&str, &str); 4] = [
+    ("TARGET", "x86_64-unknown-linux-gnu"),
+    ("CARGO_CFG_TARGET_ARCH", "x86_64"),
+    ("CARGO_CFG_TARGET_OS", "linux"),
+    ("CARGO_CFG_TARGET_POINTER_WIDTH", "64"),
+];
+
+/// Returns the command that runs the script in a room, with these programs on the path.
+fn command_in(room: &Path, script: &Path, programs: &[&str]) -> Command {
     let fakes = Path::new(env!("CARGO_MANIFEST_DIR")).join("tests/fake");
-    let path = env::join_paths(row.programs.iter().map(|program| fakes.join(program)));
+    let path = env::join_paths(programs.iter().map(|program| fakes.join(program)));
     let mut command = Command::new(script);
     command
         .env_clear()
+        .envs(SERVED)
         .env("PATH", path.unwrap())
         .env("CFGX_TEST_ROOM", room)
         .env("CARGO_MANIFEST_DIR", room.join("repository/bindings/rust"));
-    if let Some(named) = row.named {
-        let front = if named.is_empty() {
-            Path::new("")
-        } else {
-            room
-        };
-        command.env("CFGX_LIB_DIR", front.join(named));
-    }
+    command
+}
+
+/// Returns what the script prints.
+fn printed_by(command: &mut Command) -> String {
     let output = command.output().unwrap();
     assert!(output.status.success(), "{output:?}");
     String::from_utf8(output.stdout).unwrap()
@@ -176,7 +211,9 @@ fn plain(room: &Path, path: &str) -> String {
 /// Panics unless the script does in a room what the row says.
 fn check(room: &Path, script: &Path, row: &Row) {
     make_room(room, row.archives);
-    let printed = printed_in(room, script, row);
+    let mut command = command_in(room, script, row.programs);
+    command.envs(row.named.map(|named| ("CFGX_LIB_DIR", room.join(named))));
+    let printed = printed_by(&mut command);
     let paths = |before: &str| -> Vec<String> {
         let told = told(&printed, before);
         told.into_iter().map(|path| plain(room, path)).collect()
@@ -192,7 +229,8 @@ fn check(room: &Path, script: &Path, row: &Row) {
         "{printed}"
     );
     let watched = told(&printed, "cargo::rerun-if-env-changed=");
-    assert_eq!(watched, ["CFGX_LIB_DIR", "PKG_CONFIG_PATH"], "{printed}");
+    let variables = ["CFGX_LIB_DIR", "DOCS_RS", "PKG_CONFIG_PATH"];
+    assert_eq!(watched, variables, "{printed}");
 
     let watched = paths("cargo::rerun-if-changed=");
     assert_eq!(watched, [&["build.rs"], row.watched].concat(), "{printed}");
@@ -202,12 +240,9 @@ fn check(room: &Path, script: &Path, row: &Row) {
         usize::from(row.linked.is_empty()),
         "{printed}"
     );
-    let says_how =
-        |error: &&str| error.contains("cfgx_c/install out/cfgx") && error.contains("CFGX_LIB_DIR");
-    assert!(errors.iter().all(says_how), "{printed}");
 }
 
-/// Compiles the script, and returns the program.
+/// Compiles the script, and returns the program. Tests that run at once have rooms of their own.
 fn compiled(room: &Path) -> PathBuf {
     let script = room.join("script");
     let status = Command::new("rustc")
@@ -228,5 +263,116 @@ fn each_archive_is_found_where_the_readme_says() {
     let script = compiled(&room);
     for row in ROWS {
         check(&room.join("room"), &script, row);
+    }
+}
+
+/// Panics unless the script says in one error each of these texts, in this order.
+fn check_error(command: &mut Command, texts: &[&str]) {
+    let printed = printed_by(command);
+    let [error] = told(&printed, "cargo::error=")[..] else {
+        panic!("no error, or several: {printed}")
+    };
+    let mut rest = error;
+    for text in texts {
+        let (_, behind) = rest.split_once(text).unwrap_or_else(|| {
+            panic!("no {text} in {error}");
+        });
+        rest = behind;
+    }
+    assert!(!printed.contains("cargo::rustc-link"), "{printed}");
+}
+
+/// Panics unless the error names each place that was looked at, in order.
+fn check_places(room: &Path, script: &Path) {
+    let mut command = command_in(room, script, &["pkg-config"]);
+    let known = format!("no libcfgx.a in {};", room.join("known").display());
+    let how = "Run `crates/cfgx_c/install out/cfgx`";
+    let own = ["bindings/rust/lib;", "out/cfgx/lib;", "crates/cfgx_c/out."];
+    check_error(&mut command, &[own[0], &known, own[1], own[2], how]);
+    let mut command = command_in(room, script, &[]);
+    let known = "pkg-config knows no `cfgx >= 2.2.1` and `cfgx < 2.3`;";
+    check_error(&mut command, &[own[0], known, own[1], own[2], how]);
+
+    let named = format!("no libcfgx.a in {}.", room.join("named").display());
+    let mut command = command_in(room, script, &["pkg-config"]);
+    command.env("CFGX_LIB_DIR", room.join("named"));
+    check_error(&mut command, &[&named, how, "CFGX_LIB_DIR"]);
+}
+
+#[test]
+fn an_error_names_each_place_and_the_command() {
+    if !child::is_there("rustc", "the errors of `build.rs` were not tested") {
+        return;
+    }
+    let room = programs::room("errors");
+    let script = compiled(&room);
+    let room = room.join("room");
+    make_room(&room, &[]);
+    check_places(&room, &script);
+
+    make_room(&room, &["named/libcfgx.a", PACKED, OWN]);
+    for folder in ["", "named", "./named"] {
+        let mut command = command_in(&room, &script, &["pkg-config"]);
+        command.env("CFGX_LIB_DIR", folder).current_dir(&room);
+        let said = format!("CFGX_LIB_DIR is `{folder}`, which is no absolute path");
+        check_error(&mut command, &[&said]);
+    }
+    for (triple, arch, system, width) in [
+        ("aarch64-unknown-linux-gnu", "aarch64", "linux", "64"),
+        ("x86_64-unknown-linux-gnux32", "x86_64", "linux", "32"),
+        ("x86_64-apple-darwin", "x86_64", "macos", "64"),
+    ] {
+        let mut command = command_in(&room, &script, &["pkg-config"]);
+        command
+            .env("TARGET", triple)
+            .env("CARGO_CFG_TARGET_ARCH", arch)
+            .env("CARGO_CFG_TARGET_OS", system)
+            .env("CARGO_CFG_TARGET_POINTER_WIDTH", width);
+        check_error(
+            &mut command,
+            &[&format!("x86-64 Linux alone, and not for {triple}")],
+        );
+        let printed = printed_by(command.env("DOCS_RS", "1"));
+        assert!(!printed.contains("cargo::error"), "{printed}");
+        assert!(!printed.contains("cargo::rustc-link"), "{printed}");
+    }
+}
+
+/// Versions of installations, and whether the crate takes them.
+const VERSIONS: [(&str, bool); 7] = [
+    ("2.2.0", false),
+    ("2.2.1", true),
+    ("2.2.10", true),
+    ("2.3.0", false),
+    ("2.20.0", false),
+    ("3.2.1", false),
+    ("1.9.9", false),
+];
+
+#[test]
+fn pkg_config_gives_a_version_that_fits() {
+    let untested = "the versions that `build.rs` asks for were not tested";
+    if !child::is_there("rustc", untested) || !child::is_there("pkg-config", untested) {
+        return;
+    }
+    let room = programs::room("versions");
+    let script = compiled(&room);
+    let room = room.join("room");
+    make_room(&room, &["known/libcfgx.a"]);
+    for (version, is_taken) in VERSIONS {
+        let folder = room.join("known");
+        let text = format!(
+            "libdir={}\nName: cfgx\nDescription: conditions\nVersion: {version}\n",
+            folder.display()
+        );
+        fs::write(room.join("cfgx.pc"), text).unwrap();
+        let mut command = command_in(&room, &script, &[]);
+        command
+            .env("PATH", env::var_os("PATH").unwrap())
+            .env("PKG_CONFIG_LIBDIR", &room);
+        let printed = printed_by(&mut command);
+        let linked = format!("cargo::rustc-link-search=native={}\n", folder.display());
+        assert_eq!(printed.contains(&linked), is_taken, "{version}: {printed}");
+        assert_eq!(printed.contains("cargo::error="), !is_taken, "{version}");
     }
 }

@@ -3,6 +3,7 @@
 use super::rows::table;
 use super::spelling::spelled;
 use cfgx::error::{ParseError, Reason};
+use cfgx::expr::lexer::{Lexer, LexerToken};
 use cfgx::targets::{Families, Family, HasAtomic, HasAtomics, Os};
 use cfgx::{Decision, Expression};
 use std::error::Error;
@@ -50,6 +51,17 @@ fn reason_named(name: &str) -> Reason {
     simple.into_iter().find(is_named).unwrap()
 }
 
+/// Returns the items of a text as the tables write them, each with the number of bytes behind it.
+fn items_of(text: &str, length: usize) -> Vec<String> {
+    let written = |item| match item {
+        Ok(LexerToken { token, span }) => {
+            format!("{token} at {span:?}, {} left", length - span.end)
+        }
+        Err(error) => format!("{} in {}, 0 left", located(&error), error.original),
+    };
+    Lexer::new(text).map(written).collect()
+}
+
 /// Returns the answer with this digit.
 fn answer_of(digit: char) -> Option<bool> {
     match digit {
@@ -86,6 +98,14 @@ fn faults() {
     for row in table("stripping.txt", "fault in the stripped text") {
         let error = row[0].parse::<Expression>().unwrap_err();
         assert_eq!([located(&error), error.original], row[1..]);
+    }
+}
+
+#[test]
+fn tokens() {
+    for row in table("tokens.txt", "items") {
+        let length = row[1].strip_suffix(" left").unwrap().parse().unwrap();
+        assert_eq!(items_of(&row[0], length), row[2..], "{}", row[0]);
     }
 }
 
@@ -141,6 +161,17 @@ fn texts_are_compared_byte_for_byte() {
         let [one, other] = pair.map(|text| Expression::parse(text).unwrap());
         assert_ne!(one, other);
     }
+}
+
+#[test]
+fn other_texts_are_not_stripped() {
+    for text in ["cfg", "cfg,", " cfg ", "cfgs", "cfg = \"(a)\""] {
+        assert_eq!(Expression::parse(text).unwrap().original(), text);
+    }
+    for text in ["cfg(a", "cfg(a) ", "cfg(a),", " cfg(a)", "Cfg(a)"] {
+        assert_eq!(Expression::parse(text).unwrap_err().original, text);
+    }
+    assert_eq!(Expression::parse("cfg(cfg)").unwrap().original(), "cfg");
 }
 
 #[test]

@@ -1,13 +1,24 @@
-//! What targets meet.
+//! The built-in targets, and what targets meet.
 
 use super::engine;
 use super::rows::table;
 use cfgx::error::Reason;
 use cfgx::expr::{Predicate, TargetPredicate};
 use cfgx::targets::{
-    ALL_BUILTINS, Endian, Env, HasAtomic, Os, TargetInfo, Vendor, get_builtin_target_by_triple,
+    ALL_BUILTINS, Abi, Endian, Env, Families, Family, HasAtomic, HasAtomics, Os, TargetInfo,
+    Triple, Vendor, builtin_facts, get_builtin_target_by_triple,
 };
-use cfgx::{Expression, targets};
+use cfgx::{Expression, Facts, audit};
+use std::collections::BTreeSet;
+use std::fs;
+use std::path::Path;
+
+/// Returns the targets that are built into the engine too, in the order of their triples.
+fn targets_of_the_engine() -> Vec<&'static TargetInfo> {
+    let triples = &table("triples.txt", "all built-in targets")[0][0];
+    let found = triples.split(' ').map(get_builtin_target_by_triple);
+    found.map(Option::unwrap).collect()
+}
 
 /// Returns the value of a condition on a target. What is not on the target is unknown.
 fn value_on(expression: &Expression, target: &TargetInfo) -> Option<bool> {
@@ -17,46 +28,56 @@ fn value_on(expression: &Expression, target: &TargetInfo) -> Option<bool> {
     })
 }
 
-/// Conditions on each key, with values that some target has and others.
+/// Returns the cells of the table that the built-in targets are made from, with its heads first. A
+/// head is a key, but for that of the triples.
+fn cells() -> Vec<Vec<String>> {
+    let path = Path::new(env!("CARGO_MANIFEST_DIR")).join("../targets/targets.tsv");
+    let table = fs::read_to_string(path).unwrap();
+    let lines = table.lines().skip(1);
+    lines
+        .map(|line| line.split('\t').map(str::to_string).collect())
+        .collect()
+}
+
+/// Conditions on each key of a target, with each value that a built-in target has, and with others.
 fn conditions() -> Vec<String> {
-    let keys = [
-        ("target_abi", "macabi sim none"),
-        ("target_arch", "aarch64 x86"),
-        ("target_endian", "big little"),
-        ("target_env", "macabi sim none"),
-        ("target_family", "unix windows"),
-        ("target_has_atomic", "8 16 32 64 128 ptr 256 +08"),
-        ("target_os", "macos ios tvos linux none"),
-        ("panic", "unwind abort"),
-        ("target_pointer_width", "64 32 +064"),
-        ("target_vendor", "apple unknown"),
-        ("feature", "x"),
+    let others = [
+        "target_has_atomic=256",
+        "target_has_atomic=+08",
+        "target_pointer_width=+064",
+        "feature=x",
     ];
-    let mut conditions = vec![String::from("unix"), String::from("windows")];
-    for (key, values) in keys {
-        conditions.extend(
-            values
-                .split(' ')
-                .map(|value| format!("{key} = \"{value}\"")),
-        );
+    let mut asked: BTreeSet<String> = others.map(str::to_string).into();
+    let cells = cells();
+    for (column, key) in cells[0].iter().enumerate().skip(1) {
+        let values = cells[1..].iter().flat_map(|row| row[column].split(' '));
+        let all = values.chain(["", "none", "unknown"]);
+        asked.extend(all.map(|value| format!("{key}={value}")));
     }
-    let empty = ["target_abi", "target_env", "target_os", "target_vendor"];
-    conditions.extend(empty.map(|key| format!("{key} = \"\"")));
+    let texts = asked.iter().map(|one| one.replacen('=', "=\"", 1) + "\"");
+    let texts = texts.chain(["unix", "windows"].map(str::to_string));
+    let conditions: Vec<String> = texts
+        .filter(|text| Expression::parse(text).is_ok())
+        .collect();
+    assert!(conditions.len() > 140);
     conditions
 }
 
+/// A target meets one value at most of most keys, so its fields are those of the engine's row.
 #[test]
 fn the_five_rows_meet_what_the_program_says() {
-    for target in ALL_BUILTINS {
-        for text in conditions() {
-            let expression = Expression::parse(&text).unwrap();
+    let conditions = conditions();
+    assert_eq!(targets_of_the_engine().len(), 5);
+    for target in targets_of_the_engine() {
+        for text in &conditions {
+            let expression = Expression::parse(text).unwrap();
             let value = match value_on(&expression, target) {
                 Some(value) => format!("{value}\n"),
                 None => String::from("unknown\n"),
             };
             let triple = target.triple.as_str();
             assert_eq!(
-                engine::run(&["target", triple, &text]),
+                engine::run(&["target", triple, text]),
                 (0, value),
                 "{triple} {text}"
             );
@@ -73,7 +94,7 @@ fn recorded_values_on_the_five_rows() {
             Some(false) => '0',
             None => '?',
         };
-        let found: String = ALL_BUILTINS.iter().map(digit).collect();
+        let found: String = targets_of_the_engine().into_iter().map(digit).collect();
         // The last digit is that of the lanes past the targets.
         assert_eq!(found, row[1][..row[1].len() - 1], "{}", row[0]);
     }
@@ -92,24 +113,66 @@ fn missing_fields() {
 
 #[test]
 fn built_in_targets_are_found_by_their_triples() {
-    for row in table("triples.txt", "built-in target") {
-        let found = get_builtin_target_by_triple(&row[0]);
-        let triple = found.map_or("nowhere", |target| target.triple.as_str());
-        assert_eq!(triple, row[1]);
-    }
-    let triples: Vec<&str> = ALL_BUILTINS.iter().map(|one| one.triple.as_str()).collect();
-    assert_eq!(
-        table("triples.txt", "all built-in targets"),
-        [[triples.join(" ")]]
-    );
     assert!(ALL_BUILTINS.is_sorted_by(|one, other| one.triple < other.triple));
+    for target in ALL_BUILTINS {
+        let triple = target.triple.as_str();
+        assert_eq!(get_builtin_target_by_triple(triple), Some(target));
+    }
+    // Some triples that the engine does not know are built in here.
+    let rows = table("triples.txt", "built-in target");
+    for row in rows.iter().filter(|row| row[1] != "nowhere") {
+        let found = get_builtin_target_by_triple(&row[0]).unwrap();
+        assert_eq!(found.triple.as_str(), row[1]);
+    }
+    let nowhere = ["", "-", "a", "aarch64-apple", "x86_64", "zzz", "\u{10ffff}"];
+    let found = nowhere.map(get_builtin_target_by_triple);
+    assert_eq!(found, [None; 7]);
+}
+
+/// Returns what the table has of a target in its first columns.
+fn first_cells(target: &TargetInfo) -> [String; 11] {
+    let cell = |text: Option<&str>| text.unwrap_or("-").to_string();
+    let list = |items: Vec<String>| match &*items {
+        [] => String::from("-"),
+        items => items.join(" "),
+    };
+    [
+        target.triple.to_string(),
+        cell(target.os.as_ref().map(Os::as_str)),
+        cell(target.abi.as_ref().map(Abi::as_str)),
+        target.arch.to_string(),
+        cell(target.env.as_ref().map(Env::as_str)),
+        cell(target.vendor.as_ref().map(Vendor::as_str)),
+        list(target.families.iter().map(Family::to_string).collect()),
+        target.pointer_width.to_string(),
+        format!("{:?}", target.endian),
+        list(
+            target
+                .has_atomics
+                .iter()
+                .map(HasAtomic::to_string)
+                .collect(),
+        ),
+        target.panic.to_string(),
+    ]
+}
+
+#[test]
+fn the_rows_of_the_table_are_built_in() {
+    let cells = cells();
+    let heads = "triple target_os target_abi target_arch target_env target_vendor target_family \
+        target_pointer_width target_endian target_has_atomic panic debug_assertions target_feature";
+    assert_eq!(cells[0].join(" "), heads);
+    assert_eq!(cells.len(), ALL_BUILTINS.len() + 1);
+    for (target, row) in ALL_BUILTINS.iter().zip(&cells[1..]) {
+        assert_eq!(first_cells(target), row[..11]);
+    }
 }
 
 #[test]
 fn a_triple_is_compared_byte_for_byte() {
     for target in ALL_BUILTINS {
         let triple = target.triple.as_str();
-        assert_eq!(get_builtin_target_by_triple(triple), Some(target));
         let others = [
             format!(" {triple}"),
             format!("{triple}\n"),
@@ -119,6 +182,89 @@ fn a_triple_is_compared_byte_for_byte() {
         ];
         let found = others.map(|other| get_builtin_target_by_triple(&other));
         assert_eq!(found, [None; 5], "{triple}");
+    }
+}
+
+/// Targets that many programs name: the triple, and the system, the architecture, the environment,
+/// the vendor and the width of a pointer. These were written by hand, and not taken from the table.
+const KNOWN: [(&str, &str); 8] = [
+    ("aarch64-apple-darwin", "macos aarch64 - apple 64"),
+    ("aarch64-linux-android", "android aarch64 - unknown 64"),
+    ("i686-pc-windows-msvc", "windows x86 msvc pc 32"),
+    ("thumbv7em-none-eabihf", "none arm - unknown 32"),
+    ("wasm32-unknown-unknown", "unknown wasm32 - unknown 32"),
+    ("x86_64-pc-windows-gnu", "windows x86_64 gnu pc 64"),
+    ("x86_64-unknown-linux-gnu", "linux x86_64 gnu unknown 64"),
+    ("x86_64-unknown-linux-musl", "linux x86_64 musl unknown 64"),
+];
+
+#[test]
+fn values_on_targets_that_programs_name() {
+    let keys = ["os", "arch", "env", "vendor", "pointer_width"];
+    for (triple, values) in KNOWN {
+        let target = get_builtin_target_by_triple(triple).unwrap();
+        for (key, value) in keys.into_iter().zip(values.split(' ')) {
+            let value = value.trim_start_matches('-');
+            let text = format!("target_{key} = \"{value}\"");
+            let expression = Expression::parse(&text).unwrap();
+            assert_eq!(value_on(&expression, target), Some(true), "{triple} {text}");
+        }
+    }
+}
+
+/// Facts of targets, as rustc 1.95 prints them to Cargo.
+const FACTS: [(&str, &str); 2] = [
+    (
+        "msp430-none-elf",
+        r#"debug_assertions panic="abort" target_abi="" target_arch="msp430" target_endian="little"
+        target_env="" target_os="none" target_pointer_width="16" target_vendor="unknown""#,
+    ),
+    (
+        "x86_64-unknown-linux-musl",
+        r#"debug_assertions panic="unwind" target_abi="" target_arch="x86_64" target_endian="little"
+        target_env="musl" target_family="unix" target_feature="fxsr" target_feature="sse"
+        target_feature="sse2" target_has_atomic="16" target_has_atomic="32" target_has_atomic="64"
+        target_has_atomic="8" target_has_atomic="ptr" target_os="linux" target_pointer_width="64"
+        target_vendor="unknown" unix"#,
+    ),
+];
+
+#[test]
+fn facts_of_built_in_targets() {
+    for (triple, lines) in FACTS {
+        assert_eq!(
+            builtin_facts(triple),
+            Some(Facts::new(lines.split_whitespace()))
+        );
+    }
+    assert_eq!(builtin_facts("x86_64-linux-musl"), None);
+    assert_eq!(builtin_facts(""), None);
+}
+
+/// The facts and the fields of a target say the same of each predicate that is on the target.
+#[test]
+fn built_in_targets_meet_what_their_facts_answer() {
+    let conditions: Vec<Expression> = conditions()
+        .iter()
+        .map(|text| Expression::parse(text).unwrap())
+        .collect();
+    let facts = ALL_BUILTINS
+        .iter()
+        .map(|target| builtin_facts(target.triple.as_str()));
+    let facts: Vec<Facts> = facts.map(Option::unwrap).collect();
+    let values = audit(&conditions, &facts).unwrap();
+    for (row, condition) in conditions.iter().enumerate() {
+        for (place, target) in ALL_BUILTINS.iter().enumerate() {
+            let met = value_on(condition, target);
+            if met.is_some() {
+                assert_eq!(
+                    values.value(row, place),
+                    met,
+                    "{condition} {}",
+                    target.triple
+                );
+            }
+        }
     }
 }
 
@@ -136,7 +282,6 @@ fn texts_of_byte_orders() {
         "Little".parse::<Endian>().unwrap_err().to_string(),
         "expected one of `big`, `little` here"
     );
-    assert_eq!(targets::rustc_version(), "1.99.0");
 }
 
 /// The order of `cfg-expr`: that in which its documentation lists the variants.
@@ -146,4 +291,30 @@ fn byte_orders_and_widths_are_in_order() {
     let widths = [0, 8, 16, 65_535].map(HasAtomic::IntegerSize);
     assert!(widths.is_sorted());
     assert!(widths[3] < HasAtomic::Pointer);
+}
+
+#[test]
+fn a_width_counts_for_the_texts_of_a_target_alone() {
+    assert_eq!(
+        format!("{:>7}|{:<4}|", Os::linux, Env::gnu),
+        "  linux|gnu |"
+    );
+    assert_eq!(
+        format!("{:-^5}{:.2}", Triple::new("a"), Vendor::apple),
+        "--a--ap"
+    );
+
+    assert_eq!(
+        format!("{:9}|{:9}", Families::unix, HasAtomics::atomic_8_16_32_ptr),
+        "{unix}|{8, 16, 32, ptr}"
+    );
+    let widths = (HasAtomic::IntegerSize(8), HasAtomic::Pointer);
+    assert_eq!(format!("{:9}|{:9}", widths.0, widths.1), "8|ptr");
+    assert_eq!(format!("{:50}|", Reason::Empty), "empty expression|");
+    assert_eq!(
+        format!("{:9}|", Expression::parse("unix").unwrap()),
+        "unix|"
+    );
+    let error = Expression::parse("a)").unwrap_err();
+    assert_eq!(format!("{error:50}|"), "a)\n ^ unopened parens|");
 }

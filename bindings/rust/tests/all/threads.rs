@@ -3,7 +3,8 @@
 use super::engine;
 use super::trees::{Numbers, Tree};
 use cfgx::error::{HasAtomicParseError, Reason};
-use cfgx::expr::{Predicate, TargetPredicate};
+use cfgx::expr::lexer::{Lexer, LexerToken, Token};
+use cfgx::expr::{Func, Predicate, TargetPredicate};
 use cfgx::targets::{
     Abi, Arch, Endian, Env, Families, Family, HasAtomic, HasAtomics, Os, Panic, Rustc,
     RustcCfgError, RustcError, TargetInfo, Triple, Vendor,
@@ -24,6 +25,7 @@ macro_rules! are_shared {
 #[test]
 fn types_are_send_and_sync() {
     are_shared!(Expression, Predicate<'_>, TargetPredicate, Decision);
+    are_shared!(Lexer<'_>, LexerToken<'_>, Token<'_>, Func);
     are_shared!(Audit, Facts, FactError, Otherwise);
     are_shared!(ParseError, Reason, HasAtomicParseError);
     are_shared!(

@@ -1,13 +1,24 @@
 //! Makes each call of the crate that calls the library, with nothing wherever that is possible. It
 //! is linked with `cfgx.c`.
 
+use cfg_expr::expr::lexer::Lexer;
 use cfg_expr::targets::TargetInfo;
 use cfg_expr::{Expression, Facts, audit};
 
 fn main() {
     let nothing = Expression::parse("").unwrap();
     println!("decided {:?}", nothing.decide(|_| None));
-    println!("parsed {}", Expression::parse("!").is_ok());
+    // No token, a fault alone, and as many tokens as there is room for at first, and one more
+    for (count, end) in [(0, ""), (0, "!"), (64, " "), (65, "!")] {
+        let text = "+".repeat(count) + end;
+        let (tokens, faults): (Vec<_>, Vec<_>) = Lexer::new(&text).partition(|one| one.is_ok());
+        println!("lexed {} and {}", tokens.len(), faults.len());
+    }
+    // A fault, a long text, and as many steps as there is room for at first, and one more
+    for (sign, count) in [("!", 1), (" ", 100_000), ("+", 128), ("+", 129)] {
+        let parsed = Expression::parse(&sign.repeat(count));
+        println!("parsed {}", parsed.is_ok_and(|one| one.eval(|_| false)));
+    }
     println!("read {}", TargetInfo::from_rustc_cfg("", "!").is_ok());
     let conditions = [nothing];
     for (conditions, targets) in [
