@@ -40,7 +40,7 @@ def is_there(name):
         return os.path.exists(name)
     if name == "Python 3.11":
         return sys.version_info >= (3, 11)
-    if name not in ("cargo", "rustc"):
+    if name not in ("cargo", "jq", "rustc"):
         raise ValueError(name)
     # A tool that rustup stands in for may lack its toolchain.
     pipe = subprocess.PIPE

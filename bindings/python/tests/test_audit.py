@@ -79,9 +79,42 @@ class Audits(unittest.TestCase):
                 cfgx.audit(["unix"], targets)
             error = pickle.loads(pickle.dumps(caught.exception))
             self.assertEqual((error.target, error.number, error.fact), wanted)
-            self.assertEqual((caught.exception.args, error.args), (wanted, wanted))
+            self.assertEqual(vars(error), vars(caught.exception))
+            self.assertEqual((error.args[:3], error.args), (wanted, caught.exception.args))
+            self.assertEqual(vars(cfgx.FactError(*error.args)), vars(error))
             number, target, fact = wanted[1], wanted[0], wanted[2]
             self.assertEqual(str(error), f"fact {number} of target {target} is faulty: {fact}")
+
+    def test_what_is_wrong_with_a_fact(self):
+        rows = [
+            ("all(", "("), ("", ""), ("\u3000", "\u3000"), ("cfg()", ""), ("cfg( )", " "),
+            ("a ?", "?"), ("x é", "é"), ("b)", ")"), ("a, b", "a, b"), ('a = "é', '"é'),
+            ('cfg(all(a = "日𝄞", 8))', "8"), ('cfg(all(e = "é", test = "é\0", b c))', "é\0"),
+            ("cfg(not(a, b, c))", "not(a, b, c)"), ('all(target_endian = "grün")', "grün"),
+            ('any(a = "𝄞", target_has_atomic = "é")', "é"), ('cfg(not(any("é"))', '"é"'),
+        ]
+        for (text, at_fault), mark in itertools.product(rows, ("", "?")):
+            fact = mark + text
+            with self.assertRaises(cfgx.ParseError) as caught:
+                cfgx.parse(text)
+            wanted = caught.exception
+            with self.subTest(fact=fact):
+                with self.assertRaises(cfgx.FactError) as caught:
+                    cfgx.audit(["unix"], [["a"], ["b", fact, "all("]])
+                error = caught.exception
+                self.assertEqual(error.args[:3], (1, 1, fact))
+                self.assertEqual(fact[slice(*error.span)], at_fault)
+                self.assertEqual(tuple(place - len(mark) for place in error.span), wanted.span)
+                found = error.reason, error.members, error.terms
+                self.assertEqual(found, (wanted.reason, wanted.members, wanted.terms))
+                with self.assertRaises(cfgx.FactError) as caught:
+                    cfgx.parse("unix").answers(["a", "b", fact, "all("])
+                self.assertEqual(caught.exception.args, (0, 2, *error.args[2:]))
+
+    def test_facts_come_before_conditions(self):
+        with self.assertRaises(cfgx.FactError) as caught:
+            cfgx.audit(["all(", "unix"], [["unix"], ["windows", "b)", "all("]])
+        self.assertEqual(caught.exception.args[:3], (1, 1, "b)"))
 
     def test_what_is_no_answer(self):
         for otherwise in (0, 1, 0.0, 1.0, "", "false", b"", [], ()):
@@ -134,7 +167,7 @@ class Answers(unittest.TestCase):
         for (facts, number, fact), text in itertools.product(rows, ("unix", "all()")):
             with self.subTest(facts=facts), self.assertRaises(cfgx.FactError) as caught:
                 cfgx.parse(text).answers(facts)
-            self.assertEqual(caught.exception.args, (0, number, fact))
+            self.assertEqual(caught.exception.args[:3], (0, number, fact))
 
     def test_other_arguments(self):
         expression = cfgx.parse("unix")

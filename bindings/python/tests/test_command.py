@@ -1,317 +1,464 @@
-"""The command as a process, over a `cargo` and a `rustc` that are made up."""
-import contextlib
+"""The command `cfgx-deps` as a process."""
 import json
 import os
+import re
+import resource
 import shutil
 import subprocess
 import sys
-import tempfile
-import unittest
 import unittest.mock
 
-from . import PACKAGE, needs
+from . import HERE, PACKAGE, needs
+from .made import Folder
 
-from cfgx import __main__, _library
+import cfgx
+from cfgx import _command, _library
 
-TRIPLE = "x86_64-unknown-linux-gnu"
-# A `rustc` that knows one target.
-RUSTC = f"""#!/bin/sh
-case "$*" in
-"-vV") printf 'rustc 1.0.0\\nhosts: none\\nhost: {TRIPLE}\\nrelease: 1.0.0\\n' ;;
-"--print cfg --crate-type proc-macro --target {TRIPLE}") printf 'unix\\ntarget_os="linux"\\n' ;;
-*) exit 9 ;;
+PROJECT = os.path.join(HERE, "..", "pyproject.toml")
+# What each file of facts has.
+FACTS = 'target_arch="arm"\ntarget_endian="little"\ntarget_pointer_width="32"\n'
+HOST, WINDOWS = "x86_64-unknown-linux-gnu", "x86_64-pc-windows-gnu"
+# A `cargo` that lists what a file has.
+CARGO = """#!/bin/sh
+case "$1" in
+-vV) printf 'cargo 1.95.0\\nhost: {host}\\n' ;;
+*) exec {cat} '{folder}/metadata.json' ;;
 esac
 """
-TABLE = f"dependency  {TRIPLE}  condition\na           yes                       cfg(unix)\n"
+TABLE = f"""\
+dependency  host  {WINDOWS}  condition
+a           -     no                     cfg(unix)
+
+host {HOST}; 1 row: 1 no
+"""
 # Values that would end the line, clear the screen, or turn the direction of what follows.
-HOSTILE = (
-    'a = "\n\terror\x07\x1b[2J\x7f\x85\x9b\xa0\xad\u061c\u200b\u200e\u200f\u2028\u2029", '
-    'b = "\u202a\u202e\u2066\u2069\ufeff\U000e0041"'
-)
-SHOWN = (
-    r'a = "\n\terror\x07\x1b[2J\x7f\x85\x9b\xa0\xad\u061c\u200b\u200e\u200f\u2028\u2029", '
-    r'b = "\u202a\u202e\u2066\u2069\ufeff\U000e0041"'
-)
-
-
-def printing(status, output, message=""):
-    """Returns a tool that prints what `printf` makes of these texts, and ends with a status."""
-    return f"#!/bin/sh\nprintf '{output}'\nprintf '{message}' >&2\nexit {status}\n"
+HOSTILE = "\n\terror\x07\x1b[2J\x7f\x85\x9b\xa0\u200e\u2028\u202e\u2066\ufeff"
+SHOWN = r"\n\terror\x07\x1b[2J\x7f\x85\x9b\xa0\u200e\u2028\u202e\u2066\ufeff"
 
 
 def dependency_of(name="a", target=None, **fields):
-    """Returns a dependency as `cargo metadata` lists it."""
+    """Returns a dependency as Cargo lists it."""
     usual = {"name": name, "rename": None, "kind": None, "optional": False, "target": target}
     return {**usual, **fields}
 
 
-class Made(unittest.TestCase):
-    """A manifest in a folder of its own, with tools that are made up."""
+def package_of(name, path, *dependencies, kind="lib"):
+    """Returns a package as Cargo lists it."""
+    return {"name": name, "manifest_path": path, "dependencies": dependencies,
+            "targets": [{"kind": [kind], "crate_types": [kind]}]}
+
+
+class Made(Folder):
+    """A manifest in a folder of its own, a `cargo` that is made up, and the command."""
 
     def setUp(self):
-        folder = tempfile.TemporaryDirectory()
-        self.addCleanup(folder.cleanup)
-        self.folder = os.path.realpath(folder.name)
+        super().setUp()
         self.tools = os.path.join(self.folder, "tools")
-        self.path = os.path.join(self.folder, "Cargo.toml")
-        self.write(self.path, "")
-        self.make_both()
-        self.list([dependency_of(target="cfg(unix)")])
+        self.audited = os.path.join(self.folder, "audited")
+        self.path = self.write("audited/Cargo.toml")
+        values = {"host": HOST, "cat": shutil.which("cat"), "folder": self.folder}
+        self.write_program("tools/cargo", CARGO.format(**values))
+        self.list(dependency_of(target="cfg(unix)"))
+        with open(PROJECT, encoding="utf-8") as file:
+            [(module, name)] = re.findall(r'^cfgx-deps = "(\w+):(\w+)"$', file.read(), re.M)
+        # What pip writes of this line.
+        self.script = self.write("bin/cfgx-deps", (
+            f"import sys\nfrom {module} import {name}\n"
+            f'if __name__ == "__main__":\n    sys.exit({name}())\n'
+        ))
 
-    def write(self, path, text):
-        """Writes a file, and the folders above it."""
-        os.makedirs(os.path.dirname(path), exist_ok=True)
-        with open(path, "w", encoding="utf-8") as file:
-            file.write(text)
+    def list(self, *dependencies):
+        """Makes `cargo` list these dependencies of the package."""
+        package = package_of("p", self.path, *dependencies)
+        if any(one["kind"] == "build" for one in dependencies):
+            package["targets"].append({"kind": ["custom-build"], "crate_types": ["bin"]})
+        self.write("metadata.json", json.dumps({"packages": [package]}))
 
-    def make_both(self):
-        """Makes both tools, as they are where nothing is wrong."""
-        self.make("rustc", RUSTC)
-        cat = shutil.which("cat")
-        self.make("cargo", f"#!/bin/sh\nexec {cat} '{self.folder}/metadata.json'\n")
-
-    def make(self, name, script):
-        """Makes a tool."""
-        path = os.path.join(self.tools, name)
-        self.write(path, script)
-        os.chmod(path, 0o755)
-
-    def list(self, dependencies, kinds=("lib",), path=None):
-        """Makes `cargo` list these dependencies of the package with the manifest at a path."""
-        self.list_packages([self.package("a", path or self.path, dependencies, kinds)])
-
-    def package(self, name, path, dependencies, kinds=("lib",)):
-        """Returns a package as `cargo metadata` lists it."""
-        targets = [{"kind": [kind]} for kind in kinds]
-        return {"name": name, "manifest_path": path, "targets": targets,
-                "dependencies": dependencies}
-
-    def list_packages(self, packages):
-        """Makes `cargo` list these packages."""
-        text = json.dumps({"packages": packages})
-        self.write(os.path.join(self.folder, "metadata.json"), text)
-
-    def command(self, *words, options=(), shell=None, stdout=subprocess.PIPE, **variables):
-        """Returns the status of the command with these words, and what it prints on both
-        streams. `shell` may redirect streams of `"$@"`."""
+    def command(self, *words, start=None, shell=None, stdout=subprocess.PIPE, **variables):
+        """Returns the status of the command with these words in the folder of the manifest, and
+        what it prints on both streams. `shell` may redirect streams of `"$@"`."""
         variables = {
             "PATH": self.tools, "PYTHONPATH": os.path.abspath(PACKAGE), "PYTHONUTF8": "1",
-            "PYTHONDONTWRITEBYTECODE": "1", "CFGX_LIBRARY": _library.path_of(), **variables,
+            "PYTHONDONTWRITEBYTECODE": "1", "CFGX_LIBRARY": _library.path_of(),
+            "HOME": self.folder, **variables,
         }
-        command = [sys.executable, *options, "-m", "cfgx", *words]
+        command = [sys.executable, *(start or [self.script]), *words]
         if shell is not None:
             command = [shutil.which("sh"), "-c", shell, "sh", *command]
-        run = subprocess.run(command, env=variables, cwd=self.folder, stdout=stdout,
+        run = subprocess.run(command, env=variables, cwd=self.audited, stdout=stdout,
                              stderr=subprocess.PIPE, check=False)
         return run.returncode, (run.stdout or b"").decode(), run.stderr.decode()
 
-    def on_target(self, **options):
-        """Returns what `command` does of the manifest on the target."""
-        return self.command(self.path, "--target", TRIPLE, **options)
-
 
 class Statuses(Made):
-    """With which status the command ends, and the sentence that it prints then."""
+    """With which status the command ends, and what it prints then."""
 
     def test_a_table(self):
-        self.assertEqual(self.on_target(), (0, TABLE, ""))
+        words = ("--target", WINDOWS)
+        for given in (words, (*words, "Cargo.toml"), ("Cargo.toml", *words), (".", *words),
+                      (self.path, *words), (*words, self.audited)):
+            with self.subTest(given=given):
+                self.assertEqual(self.command(*given), (0, TABLE, ""))
 
-    def test_wrong_arguments(self):
-        for words in ((), (self.path,), ("--target", TRIPLE), (self.path, "--target"),
-                      (self.path, "--target", TRIPLE, "--none")):
-            with self.subTest(words=words):
-                status, output, message = self.command(*words)
-                self.assertEqual((status, output), (2, ""))
-                self.assertRegex(message, r"\Ausage: (.*\n)+python3 -m cfgx: error: .*\n\Z")
+    def test_options_in_any_order(self):
+        words = [["--target", WINDOWS], ["--no-other-cfg"], ["--kind", "normal,dev"],
+                 ["--cfg", "loom"], [self.path], ["--format=table"]]
+        for turn in range(len(words)):
+            given = [word for one in words[turn:] + words[:turn] for word in one]
+            with self.subTest(given=given):
+                self.assertEqual(self.command(*given), (0, TABLE, ""))
 
-    def test_tools_that_fail(self):
-        asked = f"--print cfg --crate-type proc-macro --target {TRIPLE}"
+    def test_wrong_use(self):
         rows = [
-            ("cargo", printing(101, "{}", "error: one\\n\\nCaused by:\\n  two \\33[2J\\n"),
-             f"cargo refused {self.path}:\n    error: one\n    \n    Caused by:\n"
-             "      two \\x1b[2J\n"),
-            ("cargo", "#!/nowhere\n", r"cargo could not be run: "),
-            ("rustc", "#!/nowhere\n", r"rustc could not be run: "),
-            ("rustc", printing(1, "unix\\n", "error: 1\\n"), f"rustc refused {asked}: error: 1\n"),
-            ("rustc", printing(101, "unix\\n", "oh\\n"), f"rustc refused {asked}: oh\n"),
-            ("rustc", printing(2, "unix\\n"), f"rustc refused {asked}: \n"),
-            ("rustc", "#!/bin/sh\nkill -KILL $$\n", f"rustc refused {asked}: \n"),
-            ("rustc", printing(0, "unix\\n\\377"), "rustc printed what is not UTF-8: "),
-            ("rustc", printing(0, "unix\\nall(\\33\\n"),
-             "fact 1 of target 0 is faulty: all(\\x1b\n"),
+            (["--none"], "unrecognized arguments: --none"),
+            (["a", "b"], "unrecognized arguments: b"),
+            (["--target"], "--target: expected one argument"),
+            (["--format", "xml"], "invalid choice: 'xml'"), (["--targ", HOST], "--targ"),
+            (["--target", "x\x1b"], r"x\x1b"),
+            (["--kind", "normal,test"], "test is no kind"), (["--cfg", "a=b"], "a=b is no flag"),
+            (["--fail-on", "no"], "--fail-on takes unknown and never, and not no"),
+            (["-p", "q\u202e"], r"the workspace has no package q\u202e"),
+            (["\x1b", "\x1b"], r"unrecognized arguments: \x1b"),
         ]
-        for tool, script, message in rows:
-            with self.subTest(script=script):
-                self.make_both()
-                self.make(tool, script)
-                status, output, found = self.on_target()
+        for words, message in rows:
+            with self.subTest(words=words):
+                status, output, found = self.command(*words)
+                self.assertEqual((status, output), (2, ""))
+                self.assertIn(message, found)
+                self.assertTrue(found.replace("\n", "").isprintable(), found)
+
+    def test_the_version(self):
+        self.assertEqual(self.command("--version"), (0, f"cfgx-deps {cfgx.__version__}\n", ""))
+
+    def test_what_fails(self):
+        rows = [
+            ((os.path.join(self.folder, "tools"), ), "cargo lists no packages"),
+            (("--facts", "none.cfg"), "none.cfg cannot be read: No such file or directory"),
+            (("--rustc",), "rustc could not be run"),
+        ]
+        for words, message in rows:
+            with self.subTest(words=words):
+                if "tools" in words[0]:
+                    self.write("metadata.json", "[")
+                status, output, found = self.command(*words)
                 self.assertEqual((status, output), (1, ""))
-                # What the system says comes behind a message that has no end here.
-                if not message.endswith("\n"):
-                    found, rest = found[:len(message)], found[len(message):]
-                    self.assertRegex(rest, r"\A.+\n\Z")
-                self.assertEqual(found, message)
+                self.assertRegex(found, r"\Acfgx-deps: .*\n\Z")
+                self.assertIn(message, found)
+                self.list(dependency_of())
 
-    def test_a_rustc_that_names_no_host(self):
-        self.list([dependency_of(kind="build", target="cfg(unix)")])
-        self.assertEqual(self.on_target()[0], 0)
-        self.make("rustc", RUSTC.replace("\\nhost: ", "\\nnone: "))
-        self.assertEqual(self.on_target(), (1, "", "rustc -vV names no host\n"))
+    def test_no_cargo(self):
+        os.remove(os.path.join(self.tools, "cargo"))
+        message = "cfgx-deps: there is no cargo on the path, and only cargo reads a manifest\n"
+        self.assertEqual(self.command(), (1, "", message))
 
-    def test_tools_that_are_missing(self):
-        os.remove(os.path.join(self.tools, "rustc"))
-        status, output, message = self.on_target()
-        self.assertEqual((status, output), (1, ""))
-        self.assertRegex(message, r"\Arustc could not be run: .*\n\Z")
+    def test_no_manifest(self):
+        os.remove(self.path)
+        message = f"cfgx-deps: there is no Cargo.toml in {self.audited} or above it\n"
+        self.assertEqual(self.command(), (1, "", message))
 
     def test_no_library(self):
-        status, output, message = self.on_target(CFGX_LIBRARY="/nowhere/libcfgx.so.2.2")
+        status, output, message = self.command(CFGX_LIBRARY="/nowhere/\x1blibcfgx.so.2.2")
         self.assertEqual((status, output), (1, ""))
-        self.assertRegex(message, r"\A.*ImportError: cfgx cannot load /nowhere/libcfgx.so.2.2 \("
-                                  r".* let CFGX_LIBRARY name the file libcfgx.so.2.2\)\n\Z")
+        self.assertRegex(message, r"\Acfgx-deps: cfgx cannot load /nowhere/\\x1blibcfgx.so.2.2 \("
+                                  r".* let CFGX_LIBRARY name the file libcfgx.so.2.2\n\Z")
+
+    def test_no_library_by_the_name_of_the_package(self):
+        status, output, message = self.command(start=["-m", "cfgx"], CFGX_LIBRARY="/nowhere")
+        self.assertEqual((status, output), (1, ""))
+        self.assertRegex(message, r"\A.*ImportError: cfgx cannot load /nowhere .*\n\Z")
+
+    def test_what_is_found(self):
+        self.list(dependency_of("a", "cfg(loom)", kind="dev"), dependency_of("b", "cfg(windows)"))
+        unknown = "cfgx-deps: unknown: p a (dev) cfg(loom)\n"
+        never = "cfgx-deps: never true: p b cfg(windows)\n"
+        rows = [
+            ([], ""), (["--fail-on", "unknown"], unknown), (["--fail-on", "never"], never),
+            (["--fail-on", "never,unknown"], unknown + never),
+            (["--fail-on", "never", "--target", WINDOWS], ""),
+            (["--fail-on", "unknown", "--no-other-cfg"], ""),
+            (["--fail-on", "unknown", "--fail-on", "never", "--cfg", "loom"], never),
+            (["--fail-on", "never,unknown", "--cfg", "loom", "--target", WINDOWS], ""),
+        ]
+        for words, wanted in rows:
+            with self.subTest(words=words):
+                status, output, message = self.command(*words)
+                self.assertEqual((status, message), (1 if wanted else 0, wanted))
+                self.assertIn("2 rows", output)
+
+    def test_a_condition_that_is_never_true(self):
+        self.list(dependency_of("a", 'cfg(target_os = "linx")'), dependency_of("b", "cfg(windows)"),
+                  dependency_of("c", "cfg(windows)", kind="build"), dependency_of("d", "cfg(a)"))
+        words = ["--target", "all", "--summary", "--format", "json", "--fail-on", "never"]
+        status, output, message = self.command(*words)
+        wanted = 'cfgx-deps: never true: p a cfg(target_os = "linx")\n'
+        self.assertEqual((status, message), (1, wanted))
+        found = {one["name"]: one["never"] for one in json.loads(output)["dependencies"]}
+        self.assertEqual(found, {"a": True, "b": False, "c": False, "d": False})
 
     @needs("/dev/full", untested="an output on a full device")
     def test_a_full_device(self):
+        message = "cfgx-deps: the output could not be written: No space left on device\n"
         with open("/dev/full", "w") as full:
-            found = self.on_target(stdout=full)
-        message = "the output could not be written: No space left on device\n"
-        self.assertEqual(found, (3, "", message))
+            self.assertEqual(self.command(stdout=full), (1, "", message))
 
     def test_a_closed_output(self):
-        self.assertEqual(self.on_target(shell='"$@" >&-'), (3, "", "the output is closed\n"))
+        message = "cfgx-deps: the output is closed\n"
+        self.assertEqual(self.command(shell='"$@" >&-'), (1, "", message))
 
-    def test_an_output_that_cannot_show_a_character(self):
-        self.list([dependency_of(target='cfg(any(unix, a = "é"))')])
-        self.assertIn('"é"', self.on_target()[1])
-        found = self.on_target(PYTHONUTF8="0", PYTHONIOENCODING="ascii")
-        self.assertEqual(found, (3, "", "the output is ascii, which has no '\\xe9'\n"))
-
-    def test_an_output_that_nobody_reads(self):
+    def test_a_reader_that_has_enough(self):
         reader, writer = os.pipe()
         os.close(reader)
-        found = self.on_target(stdout=writer)
+        found = self.command(stdout=writer)
         os.close(writer)
         self.assertEqual(found, (0, "", ""))
 
+    def test_an_output_that_cannot_show_a_character(self):
+        self.list(dependency_of("é日", "cfg(unix)"))
+        found = self.command(PYTHONUTF8="0", PYTHONIOENCODING="ascii")
+        self.assertEqual((found[0], found[2]), (0, ""))
+        self.assertIn("\n\\xe9\\u65e5          yes   cfg(unix)\n", found[1])
+
     def test_memory_that_is_refused(self):
-        with unittest.mock.patch.object(__main__, "table_of", side_effect=MemoryError), \
-                unittest.mock.patch("sys.argv", ["cfgx", "a", "--target", "b"]), \
-                contextlib.redirect_stderr(unittest.mock.Mock()) as stderr, \
-                self.assertRaises(SystemExit) as caught:
-            __main__.main()
-        self.assertEqual(caught.exception.code, 3)
-        stderr.write.assert_called_once_with("there is not enough memory\n")
+        for error, status in ((MemoryError(), 1), (KeyboardInterrupt(), 130)):
+            with unittest.mock.patch.object(_command, "run", side_effect=error), \
+                    unittest.mock.patch.object(_command, "complain") as complain:
+                self.assertEqual(_command.main([]), status)
+            self.assertEqual(complain.call_count, 1 if status == 1 else 0)
+
+
+class Options(Made):
+    """What options do."""
+
+    def rows(self, *words, **variables):
+        """Returns the values of each row that the command prints, and what it prints on stderr."""
+        status, output, message = self.command("--format", "json", *words, **variables)
+        self.assertEqual(status, 0, message)
+        found = json.loads(output)
+        return {one["name"]: one["values"] for one in found["dependencies"]}, message
+
+    def test_targets(self):
+        self.list(dependency_of("a", "cfg(unix)"))
+        facts = self.write("my-target.cfg", f"unix\n{FACTS}")
+        rows = [
+            ([], ["yes"]), (["--target", "host-tuple"], ["-", "yes"]),
+            (["--facts", facts], ["-", "yes"]), (["--target", WINDOWS, "--facts", facts],
+                                                 ["-", "no", "yes"]),
+            (["--facts", facts, "--target", HOST, "--target", WINDOWS], ["-", "yes", "no", "yes"]),
+        ]
+        for words, wanted in rows:
+            self.assertEqual(self.rows(*words)[0], {"a": wanted})
+        self.assertEqual(len(self.rows("--target", "all")[0]["a"]), 1 + len(cfgx.targets()))
+
+    def test_two_files_with_one_name(self):
+        paths = [self.write(f"{place}/t.cfg", FACTS) for place in ("a", "b")]
+        found = self.command("--facts", paths[0], "--facts", paths[1])
+        self.assertEqual(found, (2, "", "cfgx-deps: two files of facts have the name t\n"))
+
+    def test_flags(self):
+        self.list(dependency_of("a", "cfg(loom)"), dependency_of("b", 'cfg(key = "x")'),
+                  dependency_of("c", "cfg(loom)", kind="build"))
+        unknown, yes, no, none = "unknown", "yes", "no", "-"
+        rows = [
+            ([], [unknown], [unknown], [unknown]),
+            (["--cfg", "loom"], [yes], [unknown], [yes]),
+            (["--cfg", "loom", "--no-other-cfg"], [yes], [no], [yes]),
+            (["--cfg", 'key = "x"', "--cfg=loom"], [yes], [yes], [yes]),
+            (["--target", HOST], [none, unknown], [none, unknown], [no, none]),
+            (["--target", HOST, "--cfg", "loom"], [none, yes], [none, unknown], [no, none]),
+        ]
+        for words, *wanted in rows:
+            with self.subTest(words=words):
+                found, message = self.rows(*words)
+                self.assertEqual((list(found.values()), message), (wanted, ""))
+
+    def test_flags_of_the_environment(self):
+        self.list(dependency_of("a", "cfg(loom)"))
+        flags = {"RUSTFLAGS": "--cfg loom -C debuginfo=1"}
+        note = "cfgx-deps: note: RUSTFLAGS is set and not read; --rustflags reads it\n"
+        self.assertEqual(self.rows(**flags), ({"a": ["unknown"]}, note))
+        self.assertEqual(self.rows("--rustflags", **flags), ({"a": ["yes"]}, ""))
+        self.assertEqual(self.rows("--rustflags"), ({"a": ["unknown"]}, ""))
+        status, _, message = self.command("--rustflags", RUSTFLAGS="-C target-cpu=native")
+        wanted = "RUSTFLAGS has -C target-cpu=native: what it changes needs --rustc"
+        self.assertEqual((status, message), (2, f"cfgx-deps: {wanted}\n"))
+
+    def test_variables_that_are_not_read(self):
+        rows = [
+            ({"CARGO_ENCODED_RUSTFLAGS": "--cfg\x1fa"}, "--rustflags reads it"),
+            ({"CARGO_BUILD_RUSTFLAGS": "--cfg a"}, "--cfg says which flags are set"),
+            ({"CARGO_TARGET_X86_64_UNKNOWN_LINUX_GNU_RUSTFLAGS": "--cfg a"},
+             "--cfg says which flags are set"),
+            ({"RUSTFLAGS": "", "CARGO_ENCODED_RUSTFLAGS": ""}, None), ({"RUSTDOCFLAGS": "x"}, None),
+        ]
+        for variables, end in rows:
+            [name, *_] = variables
+            note = "" if end is None else f"cfgx-deps: note: {name} is set and not read; {end}\n"
+            self.assertEqual(self.rows(**variables)[1], note)
+
+    def test_a_configuration(self):
+        config = self.write("audited/.cargo/config.toml", "[build]\nrustflags = []\n")
+        note = f"cfgx-deps: note: {config} has rustflags, which are not read; --cfg says which"
+        self.assertTrue(self.rows()[1].startswith(note))
+
+    def test_a_compiler(self):
+        rustc = self.write_program("own/rustc", '#!/bin/sh\ncase "$1" in -vV) echo "host: h" ;;'
+                                                " *) echo mine ;; esac\n")
+        self.list(dependency_of("a", "cfg(mine)"), dependency_of("b", "cfg(unix)"))
+        self.assertEqual(self.rows("--rustc", RUSTC=rustc)[0], {"a": ["yes"], "b": ["no"]})
+        self.assertEqual(self.rows("--rustc", "--target", "any", RUSTC=rustc)[0],
+                         {"a": ["-", "yes"], "b": ["-", "no"]})
+        shutil.copy(rustc, self.tools)
+        self.assertEqual(self.rows("--rustc")[0], {"a": ["yes"], "b": ["no"]})
+        self.assertEqual(self.rows()[0], {"a": ["unknown"], "b": ["yes"]})
+
+    def test_kinds(self):
+        self.list(dependency_of("a"), dependency_of("b", kind="dev"),
+                  dependency_of("c", kind="build"))
+        for words, wanted in ([[], "abc"], [["--kind", "dev"], "b"],
+                              [["--kind", "build,normal"], "ac"],
+                              [["--kind", "dev", "--kind", "build"], "bc"]):
+            self.assertEqual("".join(self.rows(*words)[0]), wanted)
+
+    def test_help(self):
+        status, output, message = self.command("--help")
+        self.assertEqual((status, message), (0, ""))
+        for word in ("MANIFEST", "--target", "--workspace", "-p", "--kind", "--version", "--facts",
+                     "--rustc", "--cfg", "--no-other-cfg", "--rustflags", "--format", "--summary",
+                     "--fail-on", "--wide"):
+            self.assertIn(word, output)
 
 
 class Terminal(Made):
     """What reaches the terminal of a text that is not printable."""
 
-    def test_a_cell(self):
-        self.list([dependency_of("a\x9b", target=f"cfg(any({HOSTILE}))", rename="\u202e")])
-        status, output, message = self.on_target()
-        self.assertEqual((status, message), (0, ""))
-        lines = output.split("\n")
-        self.assertEqual(len(lines), 4)
-        self.assertIn(f"cfg(any({SHOWN}))", lines[1])
-        self.assertTrue(lines[1].startswith("\\u202e "))
-        self.assertTrue(output.replace("\n", "").isprintable())
+    def test_cells(self):
+        self.list(dependency_of("a\x9b", f'cfg(k = "{HOSTILE}")', rename=HOSTILE))
+        for words in ([], ["--summary"], ["--format", "tsv"], ["--format", "json"]):
+            status, output, message = self.command(*words)
+            self.assertEqual((status, message), (0, ""))
+            self.assertTrue(output.replace("\n", "").replace("\t", "").isprintable())
+            if "json" not in words:
+                self.assertIn(f'cfg(k = "{SHOWN}")', output)
 
-    def test_a_message(self):
-        rows = [
-            ("8", "8", "^ expected one of `<key>`, `all`, `any`, `not` here"),
-            ('unix = "é\x9b"', r"é\x9b", "^^^^^ the term was not expected here"),
-            ('c = "', '"', "- unclosed quotes"), (")", ")", "^ unopened parens"),
-            ("not(\u3000)", r"not(\u3000)", "^^^^^^^^^^^ not() takes 1 predicate, found 0"),
-        ]
-        for fault, at_fault, marks in rows:
-            with self.subTest(fault=fault):
-                self.list([dependency_of("b\n", target=f"cfg(any({HOSTILE}, {fault}))")])
-                status, output, message = self.on_target()
-                self.assertEqual((status, output), (1, ""))
-                head, text, below, end = message.split("\n")
-                self.assertEqual((head, end), ("the condition of b\\n is faulty:", ""))
-                self.assertTrue(text.startswith(f"any({SHOWN}, "), text)
-                self.assertTrue(text.isprintable() and below.isprintable())
-                self.assertEqual(below.strip(), marks)
-                self.assertTrue(text.startswith(at_fault, below.index(marks)), message)
+    def test_what_is_found(self):
+        self.list(dependency_of("a\x9b", f'cfg(k = "{HOSTILE}")', rename=HOSTILE))
+        status, _, message = self.command("--fail-on", "unknown")
+        wanted = f'cfgx-deps: unknown: p {SHOWN} cfg(k = "{SHOWN}")\n'
+        self.assertEqual((status, message), (1, wanted))
+
+    def test_a_condition_that_cargo_cannot_list(self):
+        self.list(dependency_of("a", f"cfg({HOSTILE} a b)"))
+        status, output, message = self.command()
+        self.assertEqual((status, output), (1, ""))
+        self.assertTrue(message[:-1].replace("\n", "").isprintable())
+        self.assertIn(SHOWN[2:], message)
+
+    def test_a_width(self):
+        self.list(dependency_of("a", f"cfg({'x' * 200})"))
+        script = "import pty, sys; sys.exit(pty.spawn(sys.argv[1:]) >> 8)"
+        for words, is_cut in ([], True), (["--wide"], False):
+            start = ["-c", script, sys.executable, self.script]
+            status, output, message = self.command(*words, start=start, COLUMNS="70", TERM="dumb")
+            self.assertEqual((status, message), (0, ""))
+            longest = max(map(len, output.splitlines()))
+            self.assertEqual(longest <= 70, is_cut, output)
 
 
 class Folders(Made):
-    """What a folder with modules of its own makes the command run."""
+    """What an audited folder makes the command run."""
 
-    MODULES = ("json.py", "argparse.py", "cfgx/__init__.py")
+    MODULES = ("json.py", "argparse.py", "cfgx/__init__.py", "cfgx_deps.py")
 
     def runs(self, name, **options):
         """Whether the command runs a module of the folder. If not, it prints the table."""
         self.setUp()
         mark = os.path.join(self.folder, "mark")
-        self.write(os.path.join(self.folder, name), f"open({mark!r}, 'w').close()\n")
-        found = self.on_target(**options)
+        self.write(f"audited/{name}", f"open({mark!r}, 'w').close()\n")
+        found = self.command("--target", WINDOWS, **options)
         is_run = os.path.exists(mark)
         self.assertTrue(is_run or found == (0, TABLE, ""), found)
         return is_run
 
-    def test_python_takes_modules_of_the_folder(self):
-        self.assertEqual([self.runs(name) for name in self.MODULES], [True] * 3)
+    def test_the_script(self):
+        self.assertEqual([self.runs(name) for name in self.MODULES], [False] * 4)
+
+    def test_the_file_in_the_repository(self):
+        start = [os.path.abspath(os.path.join(PACKAGE, "cfgx_deps.py"))]
+        found = [self.runs(name, start=start, PYTHONPATH="") for name in self.MODULES]
+        self.assertEqual(found, [False] * 4)
 
     @needs("Python 3.11", untested="python3 -P in a folder with modules")
     def test_safe_path(self):
-        found = [self.runs(name, options=["-P"]) for name in self.MODULES]
-        self.assertEqual(found, [False] * 3)
+        found = [self.runs(name, start=["-P", "-m", "cfgx"]) for name in self.MODULES]
+        self.assertEqual(found, [False] * 4)
 
-    def test_another_folder(self):
-        found = [self.runs(name, shell='cd / && exec "$@"') for name in self.MODULES]
-        self.assertEqual(found, [False] * 3)
+    def test_python_takes_modules_of_the_folder(self):
+        found = [self.runs(name, start=["-m", "cfgx"]) for name in self.MODULES[:3]]
+        self.assertEqual(found, [True] * 3)
+
+    def test_tools_of_the_folder(self):
+        mark = os.path.join(self.folder, "mark")
+        for tool in ("cargo", "rustc"):
+            self.write_program(f"audited/{tool}", f"#!/bin/sh\n: > {mark}\nexit 1\n")
+        self.command("--rustc", PATH=f".:{self.tools}:")
+        self.assertFalse(os.path.exists(mark))
+        self.assertEqual(self.command("--target", WINDOWS, PATH=f".:{self.tools}"), (0, TABLE, ""))
+
+    def test_a_toolchain_of_the_folder(self):
+        # rustup takes the toolchain from the folder in which cargo starts.
+        self.write("audited/rust-toolchain.toml", '[toolchain]\nchannel = "1.0.0"\n')
+        real = os.path.join(self.folder, "tools/real")
+        os.rename(os.path.join(self.tools, "cargo"), real)
+        script = f'#!/bin/sh\n[ ! -e rust-toolchain.toml ] || exit 1\nexec {real} "$@"\n'
+        self.write_program("tools/cargo", script)
+        self.assertEqual(self.command("--target", WINDOWS), (0, TABLE, ""))
+
+    @needs("cargo", untested="a configuration of the folder beside a real cargo")
+    def test_programs_of_a_configuration(self):
+        mark = os.path.join(self.folder, "mark")
+        evil = self.write_program("evil", f"#!/bin/sh\n: > {mark}\nexit 1\n")
+        self.write("audited/.cargo/config.toml",
+                   f'[build]\nrustc = "{evil}"\nrustc-wrapper = "{evil}"\n[alias]\n'
+                   f'metadata = "build"\n')
+        self.write("audited/rust-toolchain.toml", f'[toolchain]\npath = "{self.folder}"\n')
+        self.write("audited/build.rs", f'fn main() {{ std::fs::write("{mark}", "").unwrap(); }}')
+        self.write("audited/src/lib.rs")
+        self.write("audited/Cargo.toml", '[package]\nname = "p"\nversion = "0.1.0"\n'
+                                         "[target.'cfg(unix)'.dependencies]\na = \"1\"\n")
+        variables = {name: os.environ[name] for name in ("RUSTUP_HOME", "CARGO_HOME")
+                     if name in os.environ}
+        status, output, _ = self.command("--target", WINDOWS, PATH=os.environ["PATH"],
+                                         HOME=os.path.expanduser("~"), **variables)
+        self.assertEqual((status, output), (0, TABLE))
+        self.assertFalse(os.path.exists(mark))
+        self.assertFalse(os.path.exists(os.path.join(self.audited, "Cargo.lock")))
 
 
-class Listed(Made):
-    """What is taken from the list of Cargo."""
+class Cost(Made):
+    """How much time the command takes."""
 
-    def listed(self, path=None):
-        """Returns what the command prints, as the words of each line."""
-        status, output, message = self.command(path or self.path, "--target", TRIPLE)
-        self.assertEqual((status, message), (0, ""))
-        return [line.split() for line in output.splitlines()[1:]]
-
-    def test_the_order_of_the_targets_of_a_package(self):
-        for kinds in (("proc-macro", "bin"), ("bin", "proc-macro", "test")):
-            with self.subTest(kinds=kinds):
-                self.list([dependency_of()], kinds)
-                self.assertEqual(self.listed(), [["a", "(host)", "yes"]])
-        self.list([dependency_of()], ("bin", "lib"))
-        self.assertEqual(self.listed(), [["a", "yes"]])
-
-    def test_a_workspace_with_one_member(self):
-        member = self.package("one", os.path.join(self.folder, "one/Cargo.toml"), [dependency_of()])
-        self.list_packages([member])
-        self.assertEqual(self.listed(), [["one", "a", "yes"]])
-
-    def test_ways_to_a_manifest(self):
-        member = self.package("one", os.path.join(self.folder, "one/Cargo.toml"),
-                              [dependency_of("b")])
-        self.list_packages([member, self.package("a", self.path, [dependency_of("a")])])
-        os.symlink(self.folder, os.path.join(self.folder, "link"))
-        os.mkdir(os.path.join(self.folder, "other"))
-        os.symlink(self.path, os.path.join(self.folder, "other", "Cargo.toml"))
-        name = os.path.basename(self.folder)
-        for path in ("Cargo.toml", "./Cargo.toml", f"../{name}/Cargo.toml", "link/Cargo.toml",
-                     "other/Cargo.toml", os.path.join(self.folder, "link/link/Cargo.toml")):
-            with self.subTest(path=path):
-                self.assertEqual(self.listed(path), [["a", "yes"]])
-
-    def test_marks(self):
-        rows = [
-            (None, False, "lib", "a"), (None, True, "lib", "a (optional)"),
-            ("dev", False, "lib", "a (dev)"), ("dev", True, "lib", "a (dev, optional)"),
-            ("build", False, "lib", "a (build)"), ("build", True, "lib", "a (build, optional)"),
-            (None, False, "proc-macro", "a (host)"),
-            (None, True, "proc-macro", "a (optional, host)"),
-            ("dev", False, "proc-macro", "a (dev, host)"),
-            ("dev", True, "proc-macro", "a (dev, optional, host)"),
-            ("build", False, "proc-macro", "a (build)"),
-            ("build", True, "proc-macro", "a (build, optional)"),
+    def test_many_packages_and_targets(self):
+        conditions = [
+            f'cfg(any({key} = "{word}{number}", all(unix, not({flag}))))'
+            for key in ("target_os", "target_arch", "key") for word in "ab"
+            for number in range(10) for flag in ("windows", "loom", 'feature = "x"')
         ]
-        for kind, is_optional, library, name in rows:
-            with self.subTest(name=name, library=library):
-                self.list([dependency_of(kind=kind, optional=is_optional)], (library,))
-                self.assertEqual(self.listed(), [f"{name} yes".split()])
+        packages = [
+            package_of(f"p{number}", f"{self.audited}/{number}/Cargo.toml", *(
+                dependency_of(f"d{place}", conditions[(20 * number + place) % len(conditions)])
+                for place in range(20)
+            )) for number in range(50)
+        ]
+        self.write("metadata.json", json.dumps({"packages": packages}))
+        for words in ([], ["--summary"], ["--format", "json"], ["--format", "tsv"]):
+            before = spent()
+            status, output, message = self.command("--target", "all", *words)
+            self.assertEqual((status, message), (0, ""))
+            self.assertGreaterEqual(output.count("\n"), 1001)
+            self.assertLess(spent() - before, 3)
+
+
+def spent():
+    """Returns the seconds of a processor that processes which have ended took."""
+    usage = resource.getrusage(resource.RUSAGE_CHILDREN)
+    return usage.ru_utime + usage.ru_stime

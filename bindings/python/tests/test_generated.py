@@ -70,17 +70,13 @@ class Generated(unittest.TestCase):
             self.assertIs(other.value(decision.if_false), False)
 
     def compare_spans(self, text, found, wanted):
-        """Compares the spans: the key begins the predicate, and the quote of the value ends it."""
-        self.assertEqual([one.kind.value for one in found], [one[0] for one in wanted])
-        for predicate, (_, _, key_start, key_end, value_start, value_end) in zip(found, wanted):
-            start, end = (len(text[:place].encode()) for place in predicate.span)
-            if key_end > 0:
-                self.assertEqual(start, key_start)
+        """Compares the kinds and the spans, which begin with the key, or with the word that is the
+        value."""
+        spans = [[len(text[:place].encode()) for place in one.span] for one in found]
+        both = [(one.kind.value, *span) for one, span in zip(found, spans)]
+        self.assertEqual(both, [(kind, start, end) for kind, _, start, end, *_ in wanted])
+        for predicate in found:
             is_word = text[slice(*predicate.span)] in ("unix", "windows")
-            if value_end > 0:
-                self.assertEqual(end, value_end + (0 if is_word else 1))
-            elif key_end > 0:
-                self.assertEqual(end, key_end)
             words = predicate.value if is_word else predicate.key
             self.assertTrue(text.startswith(words, predicate.span[0]))
 

@@ -1,5 +1,6 @@
 """The library: its header, how it is found, and memory."""
 import ctypes
+import itertools
 import os
 import re
 import shutil
@@ -12,7 +13,7 @@ import unittest.mock
 from . import HERE, PACKAGE, ROOT, needs
 
 import cfgx
-from cfgx import _error, _library
+from cfgx import _error, _library, _targets
 
 PROJECT = os.path.join(HERE, "..", "pyproject.toml")
 HEADER = os.path.join(ROOT, "crates", "cfgx_c", "include", "cfgx.h")
@@ -51,7 +52,7 @@ def declared(kind):
         "const char *": ctypes.c_char_p, "const uint8_t *": ctypes.c_char_p,
         "const size_t *": _library.SIZES, "size_t *": _library.SIZES,
         "char *": _library.BYTES, "uint8_t *": _library.BYTES,
-        "struct cfgx_fault *": ctypes.POINTER(_library.Fault),
+        "struct cfgx_fault *": _library.FAULT,
         "struct cfgx_predicate *": ctypes.POINTER(_library.Described),
         "const struct cfgx_step *": _library.STEPS, "struct cfgx_step *": _library.STEPS,
     }
@@ -73,7 +74,8 @@ class Header(unittest.TestCase):
 
     def test_numbers(self):
         self.assertEqual({kind.name: kind.value for kind in cfgx.Kind}, numbers_of("PREDICATE"))
-        self.assertEqual({one.name: one.value for one in cfgx.Reason}, numbers_of("REASON"))
+        reasons = {one.name: one.value for one in cfgx.Reason}
+        self.assertEqual({"NONE": 0, **reasons}, numbers_of("REASON"))
         self.assertEqual(numbers_of("VALUE"), {"FALSE": 0, "TRUE": 1, "UNKNOWN": 2})
         self.assertEqual(_library.VALUES, (False, True, None))
         self.assertEqual(numbers_of("ENDIAN"), {"BIG": 0, "LITTLE": 1})
@@ -86,7 +88,7 @@ class Header(unittest.TestCase):
     def test_version(self):
         ours = {"LANGUAGE": 2, "MAJOR": 2, "MINOR": 0}
         self.assertEqual({name: getattr(_library, name) for name in ours}, ours)
-        self.assertEqual(numbers_of("VERSION"), ours)
+        self.assertEqual(numbers_of("VERSION"), {**ours, "MINOR": 1})
         self.assertRegex(cfgx.version(), r"^2\.2\.\d+$")
 
     def test_structs(self):
@@ -141,7 +143,7 @@ class Finding(unittest.TestCase):
             self.assertIn(b"ImportError: cfgx cannot load", run.stderr)
 
     def test_a_library_without_the_calls(self):
-        fewer = unittest.mock.Mock(spec=["cfgx_version", "cfgx_check"])
+        fewer = unittest.mock.Mock(spec=["cfgx_version", "cfgx_explain"])
         for library in (object(), fewer):
             with unittest.mock.patch("ctypes.CDLL", return_value=library), \
                     self.subTest(library=library), self.assertRaises(ImportError) as caught:
@@ -237,8 +239,16 @@ class Calls(unittest.TestCase):
                 text = f"all({members * member})"
                 with self.subTest(text=text):
                     self.assertEqual(self.calls(cfgx.parse, text), ["compile"] * count)
-        self.assertEqual(self.calls(cfgx.parse, "all("), ["compile", "check", "explain"])
         self.assertEqual(self.calls(cfgx.feature, "x"), ["compile"])
+
+    def test_faults_come_with_the_call(self):
+        self.assertEqual(self.calls(cfgx.parse, "all("), ["compile", "explain"])
+        # The message has more bytes than the first call has room for.
+        text = "a" * 1000 + ")"
+        self.assertEqual(self.calls(cfgx.parse, text), ["compile", "explain", "explain"])
+        self.assertEqual(self.calls(cfgx.audit, ["a", "all("], [["b"]]), ["audit", "explain"])
+        self.assertEqual(self.calls(cfgx.audit, ["a"], [["b", "all("]]), ["audit"])
+        self.assertEqual(self.calls(cfgx.parse("any(a, b)").answers, ["all("]), ["answers"])
 
     def test_values_are_those_of_steps(self):
         expression = cfgx.parse("any(a, b)")
@@ -249,7 +259,21 @@ class Calls(unittest.TestCase):
     def test_answers(self):
         expression = cfgx.parse("any(a, b)")
         self.assertEqual(self.calls(expression.answers, ["unix"]), ["answers"])
-        self.assertEqual(self.calls(expression.answers, ["all("]), ["answers", "audit"])
+
+
+class Characters(unittest.TestCase):
+    """The characters with some bytes."""
+
+    def test_each_span(self):
+        for text in ("", "unix", "é", "aé日𝄞\0", "日本𝄞é" * 5):
+            encoded = text.encode()
+            counted = _library.characters_in(encoded)
+            places = itertools.combinations_with_replacement(range(len(encoded) + 1), 2)
+            for span in places:
+                # Of the last character before a place there may be some bytes only.
+                before = [encoded[:place].decode(errors="replace") for place in span]
+                with self.subTest(text=text, span=span):
+                    self.assertEqual(counted(*span), tuple(map(len, before)))
 
 
 class Memory(unittest.TestCase):
@@ -277,15 +301,14 @@ class Memory(unittest.TestCase):
         rows = [
             ("cfgx_compile", lambda: cfgx.parse("a")),
             ("cfgx_compile", lambda: cfgx.flag("a")),
-            ("cfgx_check", lambda: cfgx.parse("all(")),
             ("cfgx_explain", lambda: cfgx.parse("all(")),
             ("cfgx_apply", lambda: expression.eval([True, None])),
             ("cfgx_apply", lambda: expression.decide([True, None])),
             ("cfgx_answers", lambda: expression.answers(["b"])),
-            ("cfgx_audit", lambda: expression.answers(["all("])),
+            ("cfgx_answers", lambda: expression.answers(["all("])),
             ("cfgx_decide", lambda: expression.decide([True, None])),
             ("cfgx_audit", lambda: cfgx.audit(["a"], [["b"]])),
-            ("cfgx_check", lambda: cfgx.audit(["all("], [["b"]])),
+            ("cfgx_audit", lambda: cfgx.audit(["a"], [["all("]])),
             ("cfgx_explain", lambda: cfgx.audit(["all("], [["b"]])),
         ]
         # The version takes no memory.
@@ -322,8 +345,9 @@ class Project(unittest.TestCase):
     def test_its_files(self):
         numbers = numbers_of("VERSION")
         self.assertEqual(_library.NAME, f"libcfgx.so.{numbers['LANGUAGE']}.{numbers['MAJOR']}")
-        self.assertEqual(self.fields("cfgx"), ["py.typed", _library.NAME])
-        self.assertTrue(os.path.exists(os.path.join(PACKAGE, "cfgx", "py.typed")))
+        self.assertEqual(self.fields("cfgx"), ["py.typed", _targets.NAME, _library.NAME])
+        for name in ("py.typed", _targets.NAME):
+            self.assertTrue(os.path.exists(os.path.join(PACKAGE, "cfgx", name)))
 
     def test_the_python_that_it_needs(self):
         least, = self.fields("requires-python")

@@ -1,22 +1,27 @@
-"""The examples of the page and of the docstrings."""
+"""The examples of the pages and of the docstrings."""
 import doctest
 import os
 import re
+import subprocess
 
 from . import ROOT, needs
-from .test_manifest import Folder
+from .made import Shell
 
 import cfgx
+import cfgx.manifest
+from cfgx import _command
 
 PAGE = os.path.join(ROOT, "docs", "PYTHON.md")
+README = os.path.join(ROOT, "README.md")
 MANIFESTS_PAGE = os.path.join(ROOT, "docs", "MANIFESTS.md")
+HOST = "x86_64-unknown-linux-gnu"
 
 # What has examples.
 SHOWN = {
     "PYTHON.md", "cfgx", "cfgx.Expression.answers", "cfgx.Expression.decide",
     "cfgx.Expression.eval", "cfgx.Expression.original", "cfgx.Expression.predicates",
     "cfgx.FactError", "cfgx.ParseError", "cfgx.Predicate", "cfgx.audit", "cfgx.flag",
-    "cfgx.key_value", "cfgx.parse",
+    "cfgx.key_value", "cfgx.manifest", "cfgx.parse", "cfgx.target_facts", "cfgx.targets",
 }
 
 
@@ -26,29 +31,78 @@ def blocks(page):
         return re.findall(r"^```([\w,]*)\n(.*?)^```$", file.read(), re.M | re.S)
 
 
-class Page(Folder):
-    """The table on the page for manifests."""
+class Manifests(Shell):
+    """The examples on the page for manifests."""
 
-    @needs("cargo", "rustc", untested="the table on the page MANIFESTS")
-    def test_the_table(self):
-        shown = blocks(MANIFESTS_PAGE)
-        [manifest] = [text for language, text in shown if language == "toml"]
-        [place] = [place for place, (_, text) in enumerate(shown) if "-m cfgx" in text]
-        command, table = shown[place][1].split(), shown[place + 1][1]
-        self.write(self.path, manifest)
-        self.assertEqual(command[:5], ["python3", "-P", "-m", "cfgx", "Cargo.toml"])
-        self.assertEqual(self.run_main(self.path, *command[5:]), table)
+    def write_watcher(self):
+        """Writes the package on the page. Returns its folder."""
+        [manifest] = [text for language, text in blocks(MANIFESTS_PAGE) if language == "toml"]
+        self.write("watcher/Cargo.toml", manifest)
+        self.write("watcher/src/lib.rs")
+        return os.path.join(self.folder, "watcher")
 
-    def test_commands_take_no_module_of_the_folder(self):
-        for page in (PAGE, MANIFESTS_PAGE):
-            commands = [text for _, text in blocks(page) if "-m cfgx" in text]
-            self.assertTrue(commands, page)
-            self.assertTrue(all(text.startswith("python3 -P -m cfgx ") for text in commands), page)
+    @needs(
+        "cargo", "rustc", "jq",
+        untested="the commands and tables of cfgx-deps on the page MANIFESTS",
+    )
+    def test_commands(self):
+        folder, host = self.write_watcher(), cfgx.manifest.report(self.write_watcher()).platforms[0]
+        consoles = [text for language, text in blocks(MANIFESTS_PAGE) if language == "console"]
+        self.assertEqual(len(consoles), 3)
+        for text in consoles:
+            lines = text.splitlines(keepends=True)
+            command = "".join(line[2:] for line in lines if line[:2] in ("$ ", "> "))
+            wanted = "".join(line for line in lines if line[:2] not in ("$ ", "> "))
+            found = self.output_of(command, folder)
+            self.assertEqual(found.replace(f"host {host.triple};", f"host {HOST};"), wanted)
 
-    def test_the_line_of_several_flags(self):
+    def test_the_table_of_the_readme(self):
+        with open(README, encoding="utf-8") as file:
+            [shown] = re.findall(r"^```\n(\$ cfgx-deps .*?)^```$", file.read(), re.M | re.S)
+        page = next(text for language, text in blocks(MANIFESTS_PAGE) if language == "console")
+        lines = [[line.split() for line in text.splitlines()] for text in (shown, page)]
+        self.assertEqual(len(lines[0]), 6)
+        self.assertEqual([line for line in lines[0] if line not in lines[1]], [])
+
+    @needs("cargo", untested="the command of the page MANIFESTS that finds what is never true")
+    def test_the_command_for_what_is_never_true(self):
+        folder = self.write_watcher()
+        [command] = [text for language, text in blocks(MANIFESTS_PAGE)
+                     if language == "bash" and text.startswith("cfgx-deps ")]
+        self.assertNotIn("never", self.output_of(command, folder))
+        self.write("watcher/Cargo.toml", '[package]\nname = "a"\nversion = "0.1.0"\n'
+                   "[target.'cfg(target_os = \"macosx\")'.dependencies]\nb = \"1\"\n")
+        with self.assertRaises(subprocess.CalledProcessError) as caught:
+            self.output_of(command, folder)
+        self.assertEqual(caught.exception.returncode, 1)
+        self.assertIn("never", caught.exception.stdout.decode())
+
+    @needs("cargo", untested="the example in Python on the page MANIFESTS")
+    def test_the_function(self):
+        before = os.getcwd()
+        os.chdir(self.write_watcher())
+        self.addCleanup(os.chdir, before)
+        [text] = [text for language, text in blocks(MANIFESTS_PAGE) if language == "python"]
+        example = doctest.DocTestParser().get_doctest(text, {}, "MANIFESTS.md", MANIFESTS_PAGE, 0)
+        self.assertEqual(doctest.DocTestRunner().run(example).failed, 0)
+
+    def test_options(self):
         with open(MANIFESTS_PAGE, encoding="utf-8") as file:
-            [(condition, line)] = re.findall(r"For `(.*)` it says\n`(.*)`\.$", file.read(), re.M)
-        self.assertEqual(line, f"unknown: {self.verdict_of(condition)[1]}")
+            table = re.findall(r"^\| (`[^|]*) \|", file.read().split("| option |")[1], re.M)
+        told = {word for cell in table for word in re.findall(r"(?<!\w)--?[a-z][\w-]*", cell)}
+        known = {word for one in _command.parser()._actions for word in one.option_strings}
+        self.assertEqual(told | {"--help", "-h", "--package", "--version"}, known)
+
+    def test_names_in_json(self):
+        with open(MANIFESTS_PAGE, encoding="utf-8") as file:
+            text = file.read()
+        tables = text[text.index("| member |"):text.index("With `--summary`, a row has")]
+        told = {word for cell in re.findall(r"^\| (`.*?) \|", tables, re.M)
+                for word in re.findall(r"`(\w+)`", cell)}
+        self.assertEqual(told, {
+            "version", "manifest", "platforms", "dependencies", "notes", "package", "name",
+            "renamed_from", "kind", "optional", "condition", "values", "unknown", "never", "fault",
+        })
 
 
 def load_tests(loader, tests, pattern):
@@ -57,6 +111,7 @@ def load_tests(loader, tests, pattern):
     found = [doctest.DocTestParser().get_doctest(page, {}, "PYTHON.md", PAGE, 0)]
     # Without `module=False` the finder leaves out what another module defines.
     found += doctest.DocTestFinder().find(cfgx, "cfgx", module=False, globs={})
+    found += doctest.DocTestFinder().find(cfgx.manifest, "cfgx.manifest", module=False, globs={})
     examples = [one for one in found if one.examples]
     missing = SHOWN - {one.name for one in examples}
     if missing:

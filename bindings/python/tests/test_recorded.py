@@ -134,6 +134,23 @@ class Recorded(unittest.TestCase):
             with self.subTest(text=text):
                 self.assertEqual(fault_of(text), (reason, tuple(map(len, places))))
 
+    def test_faults_of_facts(self):
+        """A faulty fact has the fault of its text. Some faulty texts are passed over."""
+        count = 0
+        for text, *_ in rows.rows_of("fault", "fault in the stripped text"):
+            text = rows.unescaped(text)
+            # A mark is no part of the text.
+            marked = text.startswith("?")
+            with self.subTest(text=text):
+                try:
+                    cfgx.audit([], [[text if marked else f"?{text}"]])
+                except cfgx.FactError as error:
+                    count += 1
+                    start, end = error.span
+                    wanted = fault_of(text[1:] if marked else text)[1]
+                    self.assertEqual((start - 1, end - 1), wanted)
+        self.assertGreater(count, 100)
+
     def test_predicates(self):
         for text, predicates in rows.rows_of("predicates"):
             with self.subTest(text=text):

@@ -35,14 +35,15 @@ from ._predicates import (
     target_endian, target_env, target_family, target_feature, target_has_atomic, target_os,
     target_pointer_width, target_vendor, test,
 )
+from ._targets import rustc_version, target_facts, targets
 
 __version__ = "2.3.0"
 __all__ = [
     "Decision", "Expression", "FactError", "Kind", "ParseError", "Predicate", "Reason",
     "RustcError", "audit", "debug_assertions", "feature", "flag", "key_value", "panic", "parse",
-    "proc_macro", "rustc_facts", "target_abi", "target_arch", "target_endian", "target_env",
-    "target_family", "target_feature", "target_has_atomic", "target_os", "target_pointer_width",
-    "target_vendor", "test", "version",
+    "proc_macro", "rustc_facts", "rustc_version", "target_abi", "target_arch", "target_endian",
+    "target_env", "target_facts", "target_family", "target_feature", "target_has_atomic",
+    "target_os", "target_pointer_width", "target_vendor", "targets", "test", "version",
 ]
 
 # Tracebacks and pages name the module that callers import from.

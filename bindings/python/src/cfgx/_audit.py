@@ -3,7 +3,7 @@ from bisect import bisect_right
 from typing import Iterable, List, Optional, Union
 
 from . import _facts, _library
-from ._error import FactError, parse_error
+from ._error import fact_error, parse_error
 from ._expression import Expression
 
 
@@ -21,8 +21,8 @@ def audit(
     A predicate that no fact names is false if it is on the target, and otherwise it is `otherwise`,
     which is `None` for unknown, or `False`.
 
-    Raises `ParseError` for the first text that is no condition, or else `FactError` for the first
-    faulty fact; and for another `otherwise` `ValueError` if it is `True`, or else `TypeError`.
+    Raises `FactError` for the first faulty fact, or else `ParseError` for the first text that is no
+    condition; and for another `otherwise` `ValueError` if it is `True`, or else `TypeError`.
 
     >>> import cfgx
     >>> cfgx.audit(['any(windows, feature = "x")', "unix"], ["unix", ["windows", "?test"]])
@@ -40,18 +40,13 @@ def audit(
     for target in targets:
         facts += _facts.listed(target)
         ends.append(len(facts))
-    status, place, values = _library.audit(
+    status, fault, values = _library.audit(
         encoded, [_library.utf8_of(fact) for fact in facts], ends, number
     )
-    if status == _library.FAULTY:
-        raise parse_error(texts[place], encoded[place])
     if status == _library.FAULTY_FACT:
-        raise fact_error(facts, ends, place)
+        target = bisect_right(ends, fault.item)
+        first = [0, *ends][target]
+        raise fact_error(target, fault.item - first, facts[fault.item], fault)
+    if status == _library.FAULTY:
+        raise parse_error(texts[fault.item], encoded[fault.item], fault)
     return [values[row * len(ends):(row + 1) * len(ends)] for row in range(len(texts))]
-
-
-def fact_error(facts: List[str], ends: List[int], place: int) -> FactError:
-    """Returns the error of the fact at a place among those of all targets."""
-    target = bisect_right(ends, place)
-    first = ends[target - 1] if target > 0 else 0
-    return FactError(target, place - first, facts[place])

@@ -105,32 +105,19 @@ class ParseError(ValueError):
         return self.message
 
 
-def parse_error(text: str, encoded: bytes) -> ParseError:
-    """Returns the error of a faulty text, which is passed also in UTF-8."""
-    fault = _library.check(encoded)
-    if fault is None:
-        raise AssertionError("the text is a condition")
-    message = _library.explain(encoded).decode()
-    span = span_of(encoded, fault.offset + fault.start, fault.offset + fault.end)
-    terms = TERM_LISTS[fault.terms - 1] if fault.terms > 0 else ()
-    return ParseError(text, message, Reason(fault.reason), span, fault.members, terms)
-
-
-def span_of(encoded: bytes, start: int, end: int) -> Tuple[int, int]:
-    """Returns the span of the characters with these bytes. The first character is whole, and of the
-    last one there may be some bytes only."""
-    first = len(encoded[:start].decode())
-    return first, first + len(encoded[start:end].decode(errors="replace"))
-
-
 class FactError(ValueError):
     """A fact that is no condition. A fact that no condition can ask is not faulty, such as
     `target_thread_local`.
 
     >>> import cfgx
-    >>> cfgx.audit([], ["unix", ["windows", "all("]])
-    Traceback (most recent call last):
-    cfgx.FactError: fact 1 of target 1 is faulty: all(
+    >>> try:
+    ...     cfgx.audit([], ["unix", ["windows", "?all("]])
+    ... except cfgx.FactError as caught:
+    ...     error = caught
+    >>> print(error)
+    fact 1 of target 1 is faulty: ?all(
+    >>> error.reason, error.span
+    (<Reason.UNCLOSED_PARENS: 3>, (4, 5))
     """
 
     target: int
@@ -139,15 +126,51 @@ class FactError(ValueError):
     """The number of the fact among those of the target, from 0 on. Empty lines have none."""
     fact: str
     """The fact."""
+    reason: Reason
+    """What is wrong."""
+    span: Tuple[int, int]
+    """The characters of `fact` at fault: from the first number up to but not including the
+    second."""
+    members: int
+    """The number of members of the `not`, as in `ParseError`."""
+    terms: Tuple[str, ...]
+    """The terms that may stand there, as in `ParseError`."""
 
-    def __init__(self, target: int, number: int, fact: str) -> None:
-        super().__init__(target, number, fact)
+    def __init__(
+        self, target: int, number: int, fact: str, reason: Reason, span: Tuple[int, int],
+        members: int = 0, terms: Tuple[str, ...] = (),
+    ) -> None:
+        super().__init__(target, number, fact, reason, span, members, terms)
         self.target = target
         self.number = number
         self.fact = fact
+        self.reason = reason
+        self.span = span
+        self.members = members
+        self.terms = terms
 
     def __str__(self) -> str:
         return f"fact {self.number} of target {self.target} is faulty: {self.fact}"
+
+
+def told(
+    encoded: bytes, fault: _library.Fault
+) -> Tuple[Reason, Tuple[int, int], int, Tuple[str, ...]]:
+    """Returns what an error tells of the fault of a text or a fact: the reason, the span, the
+    members and the terms."""
+    span = _library.characters_in(encoded)(fault.offset + fault.start, fault.offset + fault.end)
+    terms = TERM_LISTS[fault.terms - 1] if fault.terms > 0 else ()
+    return Reason(fault.reason), span, fault.members, terms
+
+
+def parse_error(text: str, encoded: bytes, fault: _library.Fault) -> ParseError:
+    """Returns the error of a faulty text, which is passed also in UTF-8."""
+    return ParseError(text, _library.explain(encoded).decode(), *told(encoded, fault))
+
+
+def fact_error(target: int, number: int, fact: str, fault: _library.Fault) -> FactError:
+    """Returns the error of a faulty fact, of which the numbers of `FactError` are given."""
+    return FactError(target, number, fact, *told(fact.encode(), fault))
 
 
 class RustcError(Exception):

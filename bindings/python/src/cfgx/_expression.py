@@ -1,12 +1,11 @@
 """Conditions, and the predicates that they ask."""
 import dataclasses
 import enum
-import re
 from collections.abc import Mapping as AbstractMapping
 from typing import Any, Callable, Dict, Iterable, List, Mapping, NamedTuple, Optional, Tuple, Union
 
 from . import _facts, _library
-from ._error import FactError, parse_error
+from ._error import fact_error, parse_error
 
 
 class Kind(enum.Enum):
@@ -154,14 +153,14 @@ class Expression:
         """Parses a text, as `parse` does."""
         encoded = _library.utf8_of(text)
         found = _library.compiled(encoded)
-        if found is None:
-            raise parse_error(text, encoded)
+        if isinstance(found, _library.Fault):
+            raise parse_error(text, encoded, found)
         self = super().__new__(cls)
         self._text, self._encoded = text, encoded
         self._steps, described = found
-        spans = spans_of(text)
+        characters = _library.characters_in(encoded)
         self._predicates = tuple(
-            predicate_of(encoded, one, spans[number]) for number, one in enumerate(described)
+            predicate_of(encoded, one, characters(one.start, one.end)) for one in described
         )
         return self
 
@@ -178,8 +177,8 @@ class Expression:
         >>> cfgx.parse("cfg(unix)").original
         'unix'
         """
-        offset, end = stripped(self._text)
-        return self._text[offset:end]
+        # No condition begins with `cfg(` unless it stands in `cfg( )`.
+        return self._text[4:-1] if self._text.startswith("cfg(") else self._text
 
     @property
     def predicates(self) -> List[Predicate]:
@@ -242,10 +241,8 @@ class Expression:
         number, listed = _facts.number_of(otherwise), _facts.listed(facts)
         encoded = [_library.utf8_of(fact) for fact in listed]
         found = _library.answers(self._encoded, len(self._predicates), encoded, number)
-        if found is None:
-            # The call says that a fact is faulty, and that for tables says which.
-            _, place, _ = _library.audit([], encoded, [len(encoded)], number)
-            raise FactError(0, place, listed[place])
+        if isinstance(found, _library.Fault):
+            raise fact_error(0, found.item, listed[found.item], found)
         return found
 
     def _answered(self, answers: Answers) -> bytes:
@@ -303,13 +300,6 @@ def parse(text: str) -> Expression:
     return Expression(text)
 
 
-def stripped(text: str) -> Tuple[int, int]:
-    """Returns where the text without an outer `cfg( )` begins and ends."""
-    if text.startswith("cfg(") and text.endswith(")"):
-        return 4, len(text) - 1
-    return 0, len(text)
-
-
 def predicate_of(encoded: bytes, described: _library.Described, span: Tuple[int, int]) -> Predicate:
     """Returns the predicate at a span, as the engine describes it. So it is not checked."""
     kind, key = NUMBERED[described.kind]
@@ -331,25 +321,3 @@ def numbered_value(kind: Kind, number: int) -> Optional[str]:
     if kind in (Kind.HAS_ATOMIC, Kind.POINTER_WIDTH):
         return "ptr" if number == _library.ATOMIC_POINTER else str(number)
     return None
-
-
-# A word with its value if it has one, or the end of a list.
-TOKEN = re.compile(r'(\w+)(\s*=\s*"[^"]*")?|\)')
-FUNCTIONS = ("all", "any", "not")
-LITERALS = ("false", "true")
-
-
-def spans_of(text: str) -> List[Tuple[int, int]]:
-    """Returns the spans of the predicates of a condition, in the order in which they are asked. The
-    engine tells those of keys and values, and not of each predicate."""
-    spans: List[Tuple[int, int]] = []
-    lists: List[List[Tuple[int, int]]] = [[]]
-    for token in TOKEN.finditer(text, *stripped(text)):
-        word = token[1]
-        if word is None:
-            spans += lists.pop()
-        elif word in FUNCTIONS:
-            lists.append([])
-        elif word not in LITERALS:
-            lists[-1].append(token.span())
-    return spans + lists[0]

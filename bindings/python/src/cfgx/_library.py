@@ -5,8 +5,10 @@ No pointer is null: `ctypes` passes an address also for an array or `bytes` with
 import ctypes
 import itertools
 import os
+import re
+from bisect import bisect_left
 from ctypes import POINTER, c_char_p, c_size_t, c_uint8, c_uint32
-from typing import Any, Callable, List, Optional, Sequence, Tuple
+from typing import Any, Callable, List, Optional, Sequence, Tuple, Union
 
 NAME = "libcfgx.so.2.2"
 FOLDER = os.path.dirname(os.path.abspath(__file__))
@@ -22,20 +24,24 @@ ATOMIC_POINTER = 65536
 # The values that the numbers of answers and values stand for.
 VALUES = (False, True, None)
 
+# A byte in UTF-8 that is not the first one of its character.
+LATER_BYTE = re.compile(b"[\x80-\xbf]")
+
 
 class Fault(ctypes.Structure):
     """The struct cfgx_fault."""
     _fields_ = [
-        ("offset", c_size_t), ("start", c_size_t), ("end", c_size_t), ("members", c_size_t),
-        ("reason", c_uint32), ("terms", c_uint32),
+        ("item", c_size_t), ("offset", c_size_t), ("start", c_size_t), ("end", c_size_t),
+        ("members", c_size_t), ("reason", c_uint32), ("terms", c_uint32),
     ]
 
 
 class Described(ctypes.Structure):
     """The struct cfgx_predicate."""
     _fields_ = [
-        ("kind", c_uint32), ("number", c_uint32), ("key_start", c_size_t), ("key_end", c_size_t),
-        ("value_start", c_size_t), ("value_end", c_size_t),
+        ("kind", c_uint32), ("number", c_uint32), ("start", c_size_t), ("end", c_size_t),
+        ("key_start", c_size_t), ("key_end", c_size_t), ("value_start", c_size_t),
+        ("value_end", c_size_t),
     ]
 
 
@@ -50,17 +56,17 @@ ROOM = 32
 BYTES = POINTER(c_uint8)
 SIZES = POINTER(c_size_t)
 STEPS = POINTER(Step)
+FAULT = POINTER(Fault)
 TEXT = (c_char_p, c_size_t)
 LIST = (c_char_p, c_size_t, SIZES, c_size_t)
 ARGUMENTS = {
     "cfgx_version": (),
-    "cfgx_check": (*TEXT, POINTER(Fault)),
-    "cfgx_explain": (*TEXT, BYTES, c_size_t, SIZES),
-    "cfgx_decide": (*TEXT, c_char_p, c_size_t, BYTES, c_size_t, SIZES, BYTES),
-    "cfgx_answers": (*TEXT, *LIST, c_uint8, BYTES, c_size_t, SIZES),
-    "cfgx_compile": (*TEXT, STEPS, c_size_t, SIZES, POINTER(Described), c_size_t, SIZES),
+    "cfgx_explain": (*TEXT, BYTES, c_size_t, SIZES, FAULT),
+    "cfgx_decide": (*TEXT, c_char_p, c_size_t, BYTES, c_size_t, SIZES, BYTES, FAULT),
+    "cfgx_answers": (*TEXT, *LIST, c_uint8, BYTES, c_size_t, SIZES, FAULT),
+    "cfgx_compile": (*TEXT, STEPS, c_size_t, SIZES, POINTER(Described), c_size_t, SIZES, FAULT),
     "cfgx_apply": (STEPS, c_size_t, c_char_p, c_size_t, BYTES),
-    "cfgx_audit": (*LIST, *LIST, SIZES, c_size_t, c_uint8, BYTES, c_size_t, SIZES, SIZES),
+    "cfgx_audit": (*LIST, *LIST, SIZES, c_size_t, c_uint8, BYTES, c_size_t, SIZES, FAULT),
 }
 
 
@@ -138,45 +144,35 @@ def number_of(answer: Optional[bool]) -> int:
     raise TypeError(f"an answer is True, False or None, and not {answer!r}")
 
 
-def filled(item: Any, room: int, call: Callable[..., int]) -> Tuple[int, Any]:
-    """Calls with this room, and again if that is too small. Returns the status and the items."""
-    buffer, needed = (item * room)(), c_size_t()
-    status = call(buffer, room, needed)
-    if needed.value > room:
-        buffer = (item * needed.value)()
-        status = call(buffer, needed.value, needed)
-    return status, buffer[:needed.value]
-
-
-def check(text: bytes) -> Optional[Fault]:
-    """Returns the first fault of a text, or `None` if it is a condition."""
-    fault = Fault()
-    status = LIBRARY.cfgx_check(text, len(text), fault)
-    if status == FAULTY:
-        return fault
-    expect_done(status)
-    return None
+def characters_in(text: bytes) -> Callable[[int, int], Tuple[int, int]]:
+    """Returns what makes the span of bytes of a text that of its characters. A character is in a
+    span if its first byte is."""
+    later = [byte.start() for byte in LATER_BYTE.finditer(text)]
+    return lambda start, end: (start - bisect_left(later, start), end - bisect_left(later, end))
 
 
 def explain(text: bytes) -> bytes:
     """Returns what the program cfgx prints of the fault of a faulty text, without the last line
     feed."""
-    status, message = filled(
-        c_uint8, len(text) + 100, lambda *buffer: LIBRARY.cfgx_explain(text, len(text), *buffer)
-    )
+    room, needed = 0, c_size_t(len(text) + 100)
+    while room < needed.value:
+        room = needed.value
+        message = (c_uint8 * room)()
+        status = LIBRARY.cfgx_explain(text, len(text), message, room, needed, Fault())
     if status != FAULTY:
         expect_done(status)
-    return bytes(message)
+    return bytes(message[:needed.value])
 
 
-def compiled(text: bytes) -> Optional[Tuple[Any, List[Described]]]:
-    """Returns the steps and the predicates of a condition, or `None` if the text is faulty."""
+def compiled(text: bytes) -> Union[Fault, Tuple[Any, List[Described]]]:
+    """Returns the steps and the predicates of a condition, or the fault of a faulty text."""
     steps, predicates = (Step * ROOM)(), (Described * ROOM)()
-    step_count, count = c_size_t(), c_size_t()
+    step_count, count, fault = c_size_t(), c_size_t(), Fault()
 
     def call() -> int:
         return LIBRARY.cfgx_compile(
-            text, len(text), steps, len(steps), step_count, predicates, len(predicates), count
+            text, len(text), steps, len(steps), step_count, predicates, len(predicates), count,
+            fault,
         )
 
     status = call()
@@ -184,7 +180,7 @@ def compiled(text: bytes) -> Optional[Tuple[Any, List[Described]]]:
         steps, predicates = (Step * step_count.value)(), (Described * count.value)()
         status = call()
     if status == FAULTY:
-        return None
+        return fault
     expect_done(status)
     return (Step * step_count.value).from_buffer_copy(steps), predicates[:count.value]
 
@@ -201,11 +197,10 @@ def fillings(text: bytes, answers: bytes) -> Tuple[List[bool], List[bool]]:
     """Returns the fillings of a condition that is unknown over the numbers of as many answers as it
     has predicates: answers with which it is true, and answers with which it is false."""
     count = len(answers)
-    status, both = filled(
-        c_uint8, 2 * count,
-        lambda *buffer: LIBRARY.cfgx_decide(text, len(text), answers, count, *buffer, c_uint8()),
-    )
-    expect_done(status)
+    both = (c_uint8 * (2 * count))()
+    expect_done(LIBRARY.cfgx_decide(
+        text, len(text), answers, count, both, len(both), c_size_t(), c_uint8(), Fault()
+    ))
     found = list(map(bool, both))
     return found[:count], found[count:]
 
@@ -219,28 +214,30 @@ def list_of(texts: Sequence[bytes]) -> Tuple[bytes, int, Any, int]:
 
 def answers(
     text: bytes, count: int, facts: Sequence[bytes], otherwise: int
-) -> Optional[List[Optional[bool]]]:
+) -> Union[Fault, List[Optional[bool]]]:
     """Returns the answers of facts to the predicates of a condition, of which there are `count`, or
-    `None` if a fact is faulty."""
-    given = (text, len(text), *list_of(facts), otherwise)
-    status, found = filled(c_uint8, count, lambda *buffer: LIBRARY.cfgx_answers(*given, *buffer))
+    the fault of the first faulty fact."""
+    found, fault = (c_uint8 * count)(), Fault()
+    status = LIBRARY.cfgx_answers(
+        text, len(text), *list_of(facts), otherwise, found, count, c_size_t(), fault
+    )
     if status == FAULTY_FACT:
-        return None
+        return fault
     expect_done(status)
     return [VALUES[number] for number in found]
 
 
 def audit(
     texts: Sequence[bytes], facts: Sequence[bytes], target_ends: Sequence[int], otherwise: int
-) -> Tuple[int, int, List[Optional[bool]]]:
-    """Returns the status, the place of what is faulty, and the values of the texts on the targets.
-    The status is that of done, of a faulty text or of a faulty fact."""
-    place, count = c_size_t(), len(target_ends)
-    ends = (c_size_t * count)(*target_ends)
-    given = (*list_of(texts), *list_of(facts), ends, count, otherwise)
-    status, values = filled(
-        c_uint8, len(texts) * count, lambda *buffer: LIBRARY.cfgx_audit(*given, *buffer, place)
+) -> Tuple[int, Fault, List[Optional[bool]]]:
+    """Returns the status, the fault, and the values of the texts on the targets. The status is that
+    of done, or that of a faulty text or fact, for which the values say nothing."""
+    fault, count = Fault(), len(target_ends)
+    ends, values = (c_size_t * count)(*target_ends), (c_uint8 * (len(texts) * count))()
+    status = LIBRARY.cfgx_audit(
+        *list_of(texts), *list_of(facts), ends, count, otherwise, values, len(values), c_size_t(),
+        fault,
     )
     if status not in (FAULTY, FAULTY_FACT):
         expect_done(status)
-    return status, place.value, [VALUES[number] for number in values]
+    return status, fault, [VALUES[number] for number in values]

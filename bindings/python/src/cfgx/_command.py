@@ -1,0 +1,173 @@
+"""The command `cfgx-deps`."""
+import argparse
+import os
+import shutil
+import sys
+from typing import Dict, Iterable, Iterator, List, NoReturn, Optional, Sequence
+
+from . import __version__
+from .manifest import ManifestError, Report, RequestError, Value, report
+from .manifest import _flags, _formats, _platforms, _table
+from .manifest._cargo import KINDS
+from .manifest._errors import shown
+
+DESCRIPTION = (
+    "Shows which dependencies of a Cargo.toml Cargo takes on the host and on each target, as far as"
+    " their conditions say. Runs cargo for the list of the dependencies, and no code of the"
+    " packages."
+)
+EPILOG = (
+    "The status is 0. It is 1 if the manifest cannot be read, something else fails, or --fail-on"
+    " finds something, and 2 if an argument is wrong."
+)
+FAILED, MISUSED, INTERRUPTED = 1, 2, 130
+UNKNOWN, NEVER = "unknown", "never"
+FORMATS = ("table", "json", "tsv")
+
+
+class Parser(argparse.ArgumentParser):
+    """A parser whose messages have only printable characters."""
+
+    def error(self, message: str) -> NoReturn:
+        """Prints what is wrong with the arguments, and ends."""
+        self.print_usage(sys.stderr)
+        self.exit(MISUSED, f"{self.prog}: error: {shown(message)}\n")
+
+
+class OutputError(Exception):
+    """The output does not take what is printed. The message says why."""
+
+
+def parser() -> Parser:
+    """Returns the parser of the arguments."""
+    made = Parser("cfgx-deps", description=DESCRIPTION, epilog=EPILOG, allow_abbrev=False)
+    add = made.add_argument
+    add("manifest", metavar="MANIFEST", nargs="?",
+        help="a Cargo.toml or its folder; without one, the first in this folder or above it")
+    add("--target", metavar="TRIPLE", action="append", default=[],
+        help="a target, host-tuple, or all; without one, everything is built for the host")
+    add("--facts", metavar="FILE", action="append", default=[],
+        help="a target by the lines that rustc prints; its triple is the name of the file")
+    add("--rustc", action="store_true",
+        help="ask $RUSTC, or the rustc on the path, in place of the built-in table")
+    add("--workspace", action="store_true", help="all packages of the workspace")
+    add("-p", "--package", metavar="NAME", action="append", default=[],
+        help="a package of the workspace")
+    add("--kind", metavar="KIND,..", action="append", help="normal, dev or build")
+    add("--cfg", metavar="FLAG", action="append", default=[],
+        help="a flag that is set: NAME or KEY=\"VALUE\"")
+    add("--no-other-cfg", action="store_true", help="no other flag is set")
+    add("--rustflags", action="store_true", help="read RUSTFLAGS as Cargo does")
+    add("--format", choices=FORMATS, default=FORMATS[0], help="what is printed")
+    add("--summary", action="store_true", help="count the platforms with each value")
+    add("--fail-on", metavar="WHAT,..", action="append", default=[],
+        help="status 1 for a value that is unknown, or a condition that is never true; the rows"
+             " are named on stderr")
+    add("--wide", action="store_true", help="cut nothing to the width of the terminal")
+    add("--version", action="version", version=f"%(prog)s {__version__}")
+    return made
+
+
+def divided(lists: Iterable[str]) -> List[str]:
+    """Returns the words of lists, which have commas between them."""
+    return [word for one in lists for word in one.split(",")]
+
+
+def facts_of(paths: Iterable[str]) -> Dict[str, List[str]]:
+    """Returns the facts of each file by the triple that its name has."""
+    facts: Dict[str, List[str]] = {}
+    for path in paths:
+        triple, lines = _platforms.read_facts(path)
+        if triple in facts:
+            raise RequestError(f"two files of facts have the name {triple}")
+        facts[triple] = lines
+    return facts
+
+
+def report_of(words: argparse.Namespace) -> Report:
+    """Returns the report that arguments ask for. Raises a `ManifestError`."""
+    rustflags = (_flags.rustflags_of(os.environ) or []) if words.rustflags else None
+    kinds = KINDS if words.kind is None else divided(words.kind)
+    return report(
+        words.manifest, words.target, packages=words.package, is_workspace=words.workspace,
+        kinds=kinds, facts=facts_of(words.facts), flags=words.cfg,
+        has_other_flags=not words.no_other_cfg, rustflags=rustflags, asks_rustc=words.rustc,
+    )
+
+
+def lines_of(found: Report, words: argparse.Namespace) -> Iterator[str]:
+    """Returns the lines that are printed of a report."""
+    if words.format == "json":
+        return _formats.json_of(found, words.summary)
+    if words.format == "tsv":
+        return _formats.tsv_of(found, words.summary)
+    is_terminal = sys.stdout is not None and sys.stdout.isatty()
+    width = shutil.get_terminal_size().columns if is_terminal and not words.wide else None
+    table = _table.summary_table_of if words.summary else _table.table_of
+    return table(found, width)
+
+
+def write(text: str) -> None:
+    """Prints a text. A character that the output does not have is escaped. Raises `OutputError`."""
+    if sys.stdout is None:
+        raise OutputError("the output is closed")
+    encoding = sys.stdout.encoding or "utf-8"
+    try:
+        print(text.encode(encoding, "backslashreplace").decode(encoding), flush=True)
+    except OSError as error:
+        # Python writes what is left at its end, which must not fail too.
+        os.dup2(os.open(os.devnull, os.O_WRONLY), sys.stdout.fileno())
+        # If the pipe is broken, whoever reads has enough.
+        if not isinstance(error, BrokenPipeError):
+            raise OutputError(f"the output could not be written: {error.strerror}") from error
+
+
+def complain(message: str) -> None:
+    """Prints a message of several lines on stderr."""
+    if sys.stderr is not None:
+        print(f"cfgx-deps: {message}", file=sys.stderr)
+
+
+def reasons_to_fail(found: Report, wanted: Sequence[str]) -> Iterator[str]:
+    """Yields a line for each row of a report for which the command is to fail."""
+    for row in found.rows:
+        what = f"{_table.full_name_of(row)} {row.dependency.condition}"
+        if UNKNOWN in wanted and Value.UNKNOWN in row.values:
+            yield shown(f"unknown: {what}")
+        if NEVER in wanted and row.is_never:
+            yield shown(f"never true: {what}")
+
+
+def run(words: argparse.Namespace) -> int:
+    """Prints what the arguments ask for, and returns the status."""
+    wanted = divided(words.fail_on)
+    wrong = [one for one in wanted if one not in (UNKNOWN, NEVER)]
+    if wrong:
+        raise RequestError(f"--fail-on takes unknown and never, and not {wrong[0]}")
+    found = report_of(words)
+    for note in found.notes:
+        complain(f"note: {shown(note)}")
+    write("\n".join(lines_of(found, words)))
+    reasons = list(reasons_to_fail(found, wanted))
+    for reason in reasons:
+        complain(reason)
+    return FAILED if reasons else 0
+
+
+def main(arguments: Optional[Sequence[str]] = None) -> int:
+    """Runs the command with the arguments of the process, and returns its status."""
+    words = parser().parse_intermixed_args(arguments)
+    try:
+        return run(words)
+    except RequestError as error:
+        complain(str(error))
+        return MISUSED
+    except ManifestError as error:
+        complain(str(error))
+    except OutputError as error:
+        complain(str(error))
+    except MemoryError:
+        complain("there is not enough memory")
+    except KeyboardInterrupt:
+        return INTERRUPTED
+    return FAILED

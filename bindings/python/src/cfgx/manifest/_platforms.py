@@ -1,0 +1,189 @@
+"""The platforms of a report: the host, and the targets that are named."""
+import dataclasses
+import os
+import subprocess
+from typing import FrozenSet, Iterable, List, Mapping, Sequence, Tuple, Union
+
+import cfgx
+
+from . import _cargo, _flags
+from ._errors import CompilerError, FactsError, RequestError
+
+# The names that stand for all targets and for the host.
+ALL, HOST_TUPLE = "all", "host-tuple"
+# The name of the platform that is the host.
+HOST = "host"
+# The ends of the name of a file of facts that do not belong to the triple.
+FILE_ENDS = (".cfg", ".txt")
+# The keys that rustc prints for every target.
+REQUIRED = ("target_arch", "target_endian", "target_pointer_width")
+
+
+@dataclasses.dataclass(frozen=True)
+class Platform:
+    """A platform, as Cargo sees it."""
+
+    name: str
+    """`host`, or the triple of a target."""
+    triple: str
+    """The triple."""
+    is_host: bool
+    """Whether it is the host, for which Cargo builds build scripts and proc-macros."""
+    facts: FrozenSet[str]
+    """The facts and flags that are true there: texts `key` and `key="value"`."""
+    has_other_flags: bool
+    """Whether a flag that is not among the facts may be set there."""
+
+
+@dataclasses.dataclass(frozen=True)
+class Flags:
+    """What is known of the flags that Cargo passes to rustc."""
+
+    names: Tuple[str, ...] = ()
+    """The flags that are set, as `rustc --cfg` takes them."""
+    rustflags: Tuple[str, ...] = ()
+    """The arguments of rustc in `RUSTFLAGS`, divided."""
+    has_others: bool = True
+    """Whether other flags may be set."""
+
+    def texts(self) -> FrozenSet[str]:
+        """Returns the texts of all flags that are set. Raises `RequestError`."""
+        named = map(_flags.flag_of, self.names)
+        return frozenset([*named, *_flags.divided(self.rustflags)[0]])
+
+
+class Table:
+    """The facts in the package's own table of targets."""
+
+    def __init__(self, flags: Flags) -> None:
+        """Raises `RequestError` if an argument of rustc changes facts, as only a compiler knows."""
+        _, others = _flags.divided(flags.rustflags)
+        if others:
+            raise RequestError(f"RUSTFLAGS has {others[0]}: what it changes needs --rustc")
+
+    def host(self) -> str:
+        """Returns the triple of the host."""
+        return _cargo.host()
+
+    def targets(self) -> Sequence[str]:
+        """Returns the triples of all targets."""
+        return cfgx.targets()
+
+    def lines(self, triple: str, is_with_flags: bool) -> Iterable[str]:
+        """Returns the facts of a target. Raises `RequestError` if the table does not have it."""
+        try:
+            return cfgx.target_facts(triple)
+        except ValueError as error:
+            hint = "--rustc asks a compiler, and --facts reads a file"
+            raise RequestError(f"{error} ({hint})") from error
+
+
+class Compiler:
+    """The facts that a compiler prints: `$RUSTC`, or the `rustc` on the path."""
+
+    def __init__(self, flags: Flags, environment: Mapping[str, str]) -> None:
+        self._flags = flags
+        named = environment.get("RUSTC") or "rustc"
+        # The process starts in another folder.
+        self._program = os.path.abspath(named) if os.path.dirname(named) else named
+
+    def host(self) -> str:
+        """Returns the triple of the host. Raises `CompilerError`."""
+        for line in self._printed("-vV"):
+            if line.startswith("host: "):
+                return line[6:]
+        raise CompilerError(f"{self._program} -vV names no host")
+
+    def targets(self) -> Sequence[str]:
+        """Returns the triples of all targets that the compiler knows."""
+        return self._printed("--print", "target-list")
+
+    def lines(self, triple: str, is_with_flags: bool) -> Iterable[str]:
+        """Returns the facts of a target. Raises `CompilerError`."""
+        flags = self._flags.rustflags if is_with_flags else ()
+        # Cargo asks for this type of crate too, for which `crt-static` is no feature.
+        kind = ("--crate-type", "proc-macro")
+        return self._printed("--print", "cfg", *kind, "--target", triple, *flags)
+
+    def _printed(self, *words: str) -> List[str]:
+        """Returns the lines that the compiler prints with these words."""
+        pipe = subprocess.PIPE
+        try:
+            run = subprocess.run(
+                [self._program, *words], cwd=_cargo.START, stdin=subprocess.DEVNULL, stdout=pipe,
+                stderr=pipe, check=False,
+            )
+        except (OSError, ValueError) as error:
+            raise CompilerError(f"{self._program} could not be run: {error}") from error
+        if run.returncode != 0:
+            message = _cargo.quoted(run.stderr)
+            raise CompilerError(f"{self._program} refuses {' '.join(words)}:{message}")
+        lines = run.stdout.decode(errors="replace").split("\n")
+        return [line for line in lines if line]
+
+
+Source = Union[Table, Compiler]
+
+
+def facts_in(lines: Iterable[str], where: str) -> FrozenSet[str]:
+    """Returns the texts of lines of facts. Raises `FactsError` for one that is no fact."""
+    facts = []
+    for number, line in enumerate(lines, 1):
+        fact = _flags.fact_of(line.strip())
+        if fact is not None:
+            facts.append(fact)
+        elif line.strip():
+            raise FactsError(f"line {number} of {where} is no fact: {line}")
+    return frozenset(facts)
+
+
+def read_facts(path: str) -> Tuple[str, List[str]]:
+    """Returns the triple that the name of a file of facts has, and its lines. Raises `FactsError`,
+    also if a key is missing that each target has. Then rustc wrote no or half a file."""
+    name = os.path.basename(path)
+    stem, end = os.path.splitext(name)
+    try:
+        with open(path, encoding="utf-8") as file:
+            lines = file.read().split("\n")
+    except UnicodeDecodeError as error:
+        raise FactsError(f"{path} is not UTF-8: {error}") from error
+    except OSError as error:
+        raise FactsError(f"{path} cannot be read: {error.strerror}") from error
+    keys = {(_flags.fact_of(line.strip()) or "").split("=")[0] for line in lines}
+    for key in REQUIRED:
+        if key not in keys:
+            raise FactsError(f"{path} has no `{key}`: did rustc fail?")
+    return stem if end in FILE_ENDS else name, lines
+
+
+def platforms_of(
+    source: Source, targets: Sequence[str], facts: Mapping[str, Iterable[str]], flags: Flags
+) -> List[Platform]:
+    """Returns the host, the targets with these names, and those with these facts. No flag reaches
+    the host if there is a target."""
+    host = source.host()
+    named = [triple for name in targets for triple in triples_of(source, name, host)]
+    texts, is_alone = flags.texts(), not named and not facts
+    on_host = facts_in(source.lines(host, is_alone), host)
+    if is_alone:
+        return [platform(HOST, host, on_host | texts, flags.has_others)]
+    platforms = [platform(HOST, host, on_host, False)]
+    read = dict(facts)
+    for triple in dict.fromkeys([*named, *read]):
+        lines = read[triple] if triple in read else source.lines(triple, True)
+        platforms.append(
+            platform(triple, triple, facts_in(lines, triple) | texts, flags.has_others)
+        )
+    return platforms
+
+
+def platform(name: str, triple: str, facts: FrozenSet[str], has_other_flags: bool) -> Platform:
+    """Returns a platform. Cargo takes `proc_macro` for false, even if rustc prints it."""
+    return Platform(name, triple, name == HOST, facts - {"proc_macro"}, has_other_flags)
+
+
+def triples_of(source: Source, name: str, host: str) -> Sequence[str]:
+    """Returns the triples that the name of a target stands for."""
+    if name == ALL:
+        return source.targets()
+    return [host if name == HOST_TUPLE else name]
