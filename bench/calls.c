@@ -5,8 +5,8 @@
  *
  * CONDITIONS has a condition on each line. FACTS has a fact on each line, and an empty line behind
  * those of each target. `compile-flag` compiles one flag; `value`, `decide`, `compile`,
- * `predicates` and `apply` take one short condition. `run` evaluates each condition of the file
- * with the facts of the first target as flags, and `audit` evaluates all conditions on all
+ * `predicates`, `apply` and `tokens` take one short condition. `run` evaluates each condition of
+ * the file with the facts of the first target as flags, and `audit` evaluates all conditions on all
  * targets. */
 #include <cfgx.h>
 #include <stdio.h>
@@ -78,7 +78,8 @@ static void free_list(struct list list) {
 static void value(size_t times) {
     uint8_t found;
     while (times-- > 0)
-        require(cfgx_value(CONDITION, LENGTH, ANSWERS, 2, &found) == CFGX_STATUS_DONE, "value");
+        require(cfgx_value(CONDITION, LENGTH, ANSWERS, 2, &found, NULL) == CFGX_STATUS_DONE,
+                "value");
 }
 
 static void decide(size_t times) {
@@ -87,7 +88,7 @@ static void decide(size_t times) {
     uint8_t fillings[4];
     size_t needed;
     while (times-- > 0)
-        require(cfgx_decide(CONDITION, LENGTH, unknown, 2, fillings, 4, &needed, &found)
+        require(cfgx_decide(CONDITION, LENGTH, unknown, 2, fillings, 4, &needed, &found, NULL)
                     == CFGX_STATUS_DONE, "decide");
 }
 
@@ -97,7 +98,7 @@ static size_t compile(const char *text, size_t length, size_t times, struct cfgx
     size_t predicate_count;
     while (times-- > 0)
         require(cfgx_compile(text, length, steps, 3, &step_count, predicates, 2,
-                             &predicate_count) == CFGX_STATUS_DONE, "compile");
+                             &predicate_count, NULL) == CFGX_STATUS_DONE, "compile");
     return step_count;
 }
 
@@ -105,7 +106,7 @@ static void predicates(size_t times) {
     struct cfgx_predicate found[2];
     size_t count;
     while (times-- > 0)
-        require(cfgx_predicates(CONDITION, LENGTH, found, 2, &count) == CFGX_STATUS_DONE,
+        require(cfgx_predicates(CONDITION, LENGTH, found, 2, &count, NULL) == CFGX_STATUS_DONE,
                 "predicates");
 }
 
@@ -115,6 +116,15 @@ static void apply(size_t times) {
     uint8_t found;
     while (times-- > 0)
         require(cfgx_apply(steps, count, ANSWERS, 2, &found) == CFGX_STATUS_DONE, "apply");
+}
+
+static void tokens(size_t times) {
+    struct cfgx_token found[8];
+    size_t count;
+    size_t offset;
+    while (times-- > 0)
+        require(cfgx_tokens(CONDITION, LENGTH, found, 8, &count, &offset, NULL)
+                    == CFGX_STATUS_DONE, "tokens");
 }
 
 /* Evaluates the condition between two ends by the program's `eval`, with the facts as flags. */
@@ -148,11 +158,10 @@ static void audit(size_t times, struct list conditions, struct list facts) {
     size_t room = conditions.count * facts.groups;
     uint8_t *values = memory(NULL, room);
     size_t needed;
-    size_t place;
     while (times-- > 0)
         require(cfgx_audit(conditions.bytes, conditions.length, conditions.ends, conditions.count,
                            facts.bytes, facts.length, facts.ends, facts.count, facts.group_ends,
-                           facts.groups, 1, values, room, &needed, &place)
+                           facts.groups, 1, values, room, &needed, NULL)
                     == CFGX_STATUS_DONE, "audit");
     free(values);
 }
@@ -175,6 +184,8 @@ int main(int count, char **words) {
         predicates(times);
     else if (strcmp(words[1], "apply") == 0)
         apply(times);
+    else if (strcmp(words[1], "tokens") == 0)
+        tokens(times);
     else if (strcmp(words[1], "run") == 0)
         run(times, conditions, facts);
     else if (strcmp(words[1], "audit") == 0)
