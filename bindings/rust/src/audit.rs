@@ -79,6 +79,7 @@ impl Facts {
     /// let facts = Facts::new(["unix", "test"]);
     /// assert_eq!(facts.iter().collect::<Vec<&str>>(), ["unix", "test"]);
     /// ```
+    #[must_use]
     pub fn iter(&self) -> impl DoubleEndedIterator<Item = &str> + ExactSizeIterator {
         (0..self.len()).map(|number| self.get(number).unwrap_or_default())
     }

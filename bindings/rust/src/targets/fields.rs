@@ -67,7 +67,7 @@ macro_rules! field {
 
         impl fmt::Display for $name {
             fn fmt(&self, f: &mut fmt::Formatter<'_>) -> fmt::Result {
-                f.pad(&self.0)
+                f.write_str(&self.0)
             }
         }
     };

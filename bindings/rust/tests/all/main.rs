@@ -26,6 +26,7 @@ mod rows;
 mod rustc;
 mod script;
 mod spelling;
+mod surface;
 mod tables;
 mod targets;
 mod threads;

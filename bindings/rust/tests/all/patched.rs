@@ -61,7 +61,7 @@ fn publish(registry: &Path, name: &str, version: &str, rest: &str, code: &str) {
 
 /// Makes the folder of the program, which takes its packages from a registry with these versions of
 /// `cfg-expr`.
-fn folder_with(room: &Path, versions: &[&str]) -> PathBuf {
+pub fn folder_with(room: &Path, versions: &[&str]) -> PathBuf {
     let registry = room.join("registry");
     let _ = fs::remove_dir_all(&registry);
     let needs = "[dependencies]\ncfg-expr = \"0.20\"\n";
@@ -80,7 +80,7 @@ fn folder_with(room: &Path, versions: &[&str]) -> PathBuf {
 }
 
 /// Returns the lines of the page that put the package in the place of the other.
-fn patch() -> String {
+pub fn patch() -> String {
     let blocks = manifests::blocks();
     let patch = blocks.last().unwrap();
     assert!(patch.starts_with("[patch.crates-io]\n"), "{patch}");
@@ -88,7 +88,7 @@ fn patch() -> String {
 }
 
 /// Builds the program and runs it. Returns what Cargo says and what the program prints.
-fn run(folder: &Path) -> (String, String) {
+pub fn run(folder: &Path) -> (String, String) {
     let said = programs::succeed(&mut programs::cargo(folder, &["build"]));
     let output = Command::new(programs::path_in(folder)).output().unwrap();
     assert!(output.status.success(), "{output:?}");

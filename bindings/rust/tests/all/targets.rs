@@ -5,8 +5,8 @@ use super::rows::table;
 use cfgx::error::Reason;
 use cfgx::expr::{Predicate, TargetPredicate};
 use cfgx::targets::{
-    ALL_BUILTINS, Abi, Endian, Env, Families, Family, HasAtomic, HasAtomics, Os, TargetInfo,
-    Triple, Vendor, builtin_facts, get_builtin_target_by_triple,
+    ALL_BUILTINS, Abi, Endian, Env, Family, HasAtomic, Os, TargetInfo, Vendor, builtin_facts,
+    get_builtin_target_by_triple,
 };
 use cfgx::{Expression, Facts, audit};
 use std::collections::BTreeSet;
@@ -118,11 +118,12 @@ fn built_in_targets_are_found_by_their_triples() {
         let triple = target.triple.as_str();
         assert_eq!(get_builtin_target_by_triple(triple), Some(target));
     }
-    // Some triples that the engine does not know are built in here.
     let rows = table("triples.txt", "built-in target");
-    for row in rows.iter().filter(|row| row[1] != "nowhere") {
-        let found = get_builtin_target_by_triple(&row[0]).unwrap();
-        assert_eq!(found.triple.as_str(), row[1]);
+    // The engine does not know this triple, which is built in here.
+    for row in rows.iter().filter(|row| row[0] != "aarch64-apple-tvos-sim") {
+        let found = get_builtin_target_by_triple(&row[0]);
+        let triple = found.map_or("nowhere", |target| target.triple.as_str());
+        assert_eq!(triple, row[1]);
     }
     let nowhere = ["", "-", "a", "aarch64-apple", "x86_64", "zzz", "\u{10ffff}"];
     let found = nowhere.map(get_builtin_target_by_triple);
@@ -293,28 +294,29 @@ fn byte_orders_and_widths_are_in_order() {
     assert!(widths[3] < HasAtomic::Pointer);
 }
 
-#[test]
-fn a_width_counts_for_the_texts_of_a_target_alone() {
-    assert_eq!(
-        format!("{:>7}|{:<4}|", Os::linux, Env::gnu),
-        "  linux|gnu |"
-    );
-    assert_eq!(
-        format!("{:-^5}{:.2}", Triple::new("a"), Vendor::apple),
-        "--a--ap"
-    );
+/// Returns the triples that a sentence of the page on calls from Rust names, from `start` on.
+fn triples_on_the_page(start: &str) -> Vec<String> {
+    let path = Path::new(env!("CARGO_MANIFEST_DIR")).join("../../docs/RUST.md");
+    let page = fs::read_to_string(path).unwrap().replace('\n', " ");
+    let sentence = page
+        .split(start)
+        .nth(1)
+        .unwrap()
+        .split(". ")
+        .next()
+        .unwrap();
+    let quoted = sentence.split('`').skip(1).step_by(2);
+    let triples = quoted.filter(|text| text.matches('-').count() > 1);
+    triples.map(str::to_string).collect()
+}
 
-    assert_eq!(
-        format!("{:9}|{:9}", Families::unix, HasAtomics::atomic_8_16_32_ptr),
-        "{unix}|{8, 16, 32, ptr}"
-    );
-    let widths = (HasAtomic::IntegerSize(8), HasAtomic::Pointer);
-    assert_eq!(format!("{:9}|{:9}", widths.0, widths.1), "8|ptr");
-    assert_eq!(format!("{:50}|", Reason::Empty), "empty expression|");
-    assert_eq!(
-        format!("{:9}|", Expression::parse("unix").unwrap()),
-        "unix|"
-    );
-    let error = Expression::parse("a)").unwrap_err();
-    assert_eq!(format!("{error:50}|"), "a)\n ^ unopened parens|");
+#[test]
+fn the_page_names_the_targets_that_differ() {
+    let is_here = |triple: &String| get_builtin_target_by_triple(triple).is_some();
+    let missing = triples_on_the_page("These 14 targets");
+    assert_eq!(missing.len(), 14);
+    assert!(!missing.iter().any(is_here), "{missing:?}");
+    let others = triples_on_the_page("lacks these three");
+    assert_eq!(others.len(), 3);
+    assert!(others.iter().all(is_here), "{others:?}");
 }
