@@ -7,10 +7,10 @@ use std::error::Error;
 use std::fmt;
 use std::ops::Range;
 
-/// What is known of a target, such as the lines of `rustc --print cfg`.
+/// What is known about a target, such as the lines of `rustc --print cfg`.
 ///
-/// A fact is a text: the predicates in it are true. If it begins with `?`, the predicates in the
-/// rest of it are unknown. True wins.
+/// A fact is a text, whose predicates are true. If the text begins with `?`, the predicates in the
+/// rest of it are unknown. A predicate that is both is true.
 ///
 /// ```
 /// use cfgx::Facts;
@@ -28,7 +28,7 @@ pub struct Facts {
 }
 
 impl Facts {
-    /// Returns the facts in order. Whether each is a fact is seen by [`audit`].
+    /// Returns the facts in order. [`audit`] checks whether each text is a fact.
     ///
     /// ```
     /// use cfgx::Facts;
@@ -127,8 +127,8 @@ impl fmt::Debug for Facts {
     }
 }
 
-/// The answer to a predicate that is not on the target and that no fact names. A predicate on the
-/// target that no fact names is false.
+/// The answer to a predicate that does not test the target and that no fact names. A predicate that
+/// tests the target is false if no fact names it.
 ///
 /// ```
 /// use cfgx::{Expression, Facts, Otherwise, audit_with};
@@ -277,7 +277,7 @@ impl fmt::Display for FactError {
 impl Error for FactError {}
 
 /// Returns the value of each condition on each target. A predicate that no fact names is false if
-/// it is on the target, and else unknown.
+/// it tests the target, and unknown otherwise.
 ///
 /// # Errors
 ///
@@ -297,7 +297,7 @@ pub fn audit(conditions: &[Expression], targets: &[Facts]) -> Result<Audit, Fact
 }
 
 /// Returns the value of each condition on each target, as [`audit`] does. `otherwise` is the answer
-/// to a predicate that is not on the target and that no fact names.
+/// to a predicate that does not test the target and that no fact names.
 ///
 /// # Errors
 ///

@@ -18,8 +18,7 @@ pub use rustc::{Rustc, RustcError};
 use std::fmt;
 use std::str::FromStr;
 
-/// The values that the predicates on a target ask for. `None` means that the target has no such
-/// value.
+/// The values that predicates test of a target. `None` means that the target has no such value.
 ///
 /// ```
 /// use cfgx::targets::{
@@ -171,7 +170,7 @@ fn place_of(triple: &str) -> Option<usize> {
     found.ok()
 }
 
-/// Returns the version of the compiler that has the built-in targets, and no others.
+/// Returns the version of the compiler whose targets are built in.
 ///
 /// ```
 /// assert!(cfgx::targets::rustc_version().starts_with("1."));

@@ -5,9 +5,9 @@ use crate::audit::Facts;
 
 /// Returns the facts of the built-in target with this triple, for an [`audit`](crate::audit()).
 ///
-/// They are the lines that the compiler prints if Cargo asks, without `proc_macro`, which Cargo
-/// passes over. Of some targets [`Rustc`](super::Rustc) has a fact more,
-/// `target_feature="crt-static"`, which the compiler leaves out for Cargo.
+/// They are the lines that the compiler prints to Cargo, but for `proc_macro`, which Cargo ignores.
+/// For some targets [`Rustc`](super::Rustc) has one more fact, `target_feature="crt-static"`: the
+/// compiler does not print it to Cargo.
 ///
 /// ```
 /// use cfgx::targets::builtin_facts;

@@ -29,7 +29,7 @@ pub enum RustcCfgError {
         /// What is wrong with it.
         error: ParseError,
     },
-    /// A line has another value of a key that has one value.
+    /// A line has a second value of a key that has one value.
     Twice {
         /// The number of the line.
         line: usize,
@@ -62,7 +62,7 @@ impl Error for RustcCfgError {
     }
 }
 
-/// What the lines read so far say of a target.
+/// What the lines that were read say about a target.
 #[derive(Default)]
 struct Values {
     abi: Option<Abi>,
@@ -102,8 +102,8 @@ impl Values {
         }
     }
 
-    /// Returns the target with these values. An empty ABI or environment and the operating system
-    /// `none` are missing fields, which match the same predicates.
+    /// Returns the target with these values. An empty ABI, an empty environment and the operating
+    /// system `none` become missing fields, which meet the same predicates.
     fn target(self, triple: &str) -> Result<TargetInfo, RustcCfgError> {
         Ok(TargetInfo {
             triple: Triple::new(triple.to_string()),
@@ -145,14 +145,14 @@ impl TargetInfo {
     /// Returns the target that `lines` describe, which are what `rustc --print cfg --target TRIPLE`
     /// prints.
     ///
-    /// Empty lines and predicates that are not on the target are passed over, and so is a line that
-    /// no condition can ask, such as `target_thread_local`.
+    /// It ignores empty lines, predicates that do not test the target, and lines that no condition
+    /// can ask, such as `target_thread_local`.
     ///
     /// # Errors
     ///
-    /// `Faulty`: the first line that is no condition. `Twice`: the first line with another value of
-    /// a key that has one. `Missing`: no line has the architecture, the width of a pointer, the
-    /// byte order or the panic strategy.
+    /// `Faulty` for the first line that is no condition, `Twice` for the first line with a second
+    /// value of a key that has one value, and `Missing` if no line has the architecture, the width
+    /// of a pointer, the byte order or the panic strategy.
     ///
     /// ```
     /// use cfgx::targets::{Os, TargetInfo};

@@ -9,8 +9,8 @@ use std::fmt;
 use std::io;
 use std::process::Command;
 
-/// What a `rustc` says of some targets, such as those of another compiler than the one that
-/// [`rustc_version`](super::rustc_version) names. It was asked of each once.
+/// What a `rustc` says about some targets. It may be another compiler than the one that
+/// [`rustc_version`](super::rustc_version) names. It was asked once about each target.
 ///
 /// ```no_run
 /// use cfgx::targets::Rustc;
@@ -25,7 +25,7 @@ pub struct Rustc {
     facts: Vec<Facts>,
 }
 
-/// Why `rustc` says nothing of a target.
+/// Why `rustc` describes no target.
 ///
 /// ```
 /// use cfgx::targets::{Rustc, RustcError};
@@ -43,16 +43,16 @@ pub enum RustcError {
     NotRun(io::Error),
     /// It does not know the target.
     Refused {
-        /// The triple that it was asked of.
+        /// The triple of the target.
         triple: String,
-        /// What it wrote.
+        /// What it wrote to its standard error.
         message: String,
     },
     /// What it printed describes no target.
     Unread {
-        /// The triple that it was asked of.
+        /// The triple of the target.
         triple: String,
-        /// Why not.
+        /// What is wrong with what it printed.
         error: RustcCfgError,
     },
 }
@@ -80,13 +80,13 @@ impl Error for RustcError {
 }
 
 impl Rustc {
-    /// Asks the program that the environment variable `RUSTC` names of each target, or else the
-    /// `rustc` on the path. Cargo takes the same one.
+    /// Asks a `rustc` about each target: the program that the environment variable `RUSTC` names,
+    /// or else the `rustc` on the path. Cargo takes the same one.
     ///
     /// # Errors
     ///
-    /// `NotRun`: it could not be run. `Refused`: it does not know one of the targets. `Unread`:
-    /// what it printed of one describes no target.
+    /// `NotRun` if it could not be run, `Refused` if it does not know one of the targets, and
+    /// `Unread` if what it printed about one describes no target.
     ///
     /// ```no_run
     /// use cfgx::targets::Rustc;
@@ -104,12 +104,12 @@ impl Rustc {
         Rustc::ask_program(program, triples)
     }
 
-    /// Asks `program` of each target. It is the path of a `rustc`, or a name that is looked up on
-    /// the path.
+    /// Asks `program` about each target. `program` is the path of a `rustc`, or a name that is
+    /// looked up on the path.
     ///
     /// # Errors
     ///
-    /// As those of [`ask`](Rustc::ask).
+    /// Those of [`ask`](Rustc::ask).
     ///
     /// ```no_run
     /// use cfgx::targets::Rustc;
@@ -155,7 +155,7 @@ impl Rustc {
         &self.targets
     }
 
-    /// Returns the target with this triple, if `rustc` was asked of it.
+    /// Returns the target with this triple, if `rustc` was asked about it.
     ///
     /// ```no_run
     /// use cfgx::targets::Rustc;
