@@ -118,6 +118,7 @@ impl Expression {
     ///
     /// assert_eq!(Expression::parse("cfg(unix)").unwrap().original(), "unix");
     /// ```
+    #[must_use]
     pub fn original(&self) -> &str {
         // A condition that begins so stands in `cfg( )`, so it ends with `)`.
         match self.text.strip_prefix("cfg(") {
@@ -211,6 +212,7 @@ impl Expression {
     /// });
     /// assert_eq!(decision, Decision::Known(true));
     /// ```
+    #[must_use]
     pub fn decide<EP>(&self, eval_predicate: EP) -> Decision
     where
         EP: FnMut(&Predicate<'_>) -> Option<bool>,

@@ -71,6 +71,7 @@ pub struct Lexer<'a> {
 
 impl<'a> Lexer<'a> {
     /// Returns a lexer of `text`, which may stand in `cfg( )`. It finds all tokens at once.
+    #[must_use]
     pub fn new(text: &'a str) -> Self {
         let ffi::Tokens {
             tokens,
