@@ -44,46 +44,22 @@ fn check_named_values() {
 /// Prints what a field of each type does: borrowed and owned, printed in a width, and compared.
 macro_rules! print_fields {
     ($($field:ident)*) => {
-        $(
+        $({
             const BORROWED: $field = $field::new_const("linux");
             let owned = $field::new(String::from("linux"));
             let Cow::Borrowed(text) = BORROWED.0 else {
                 panic!("{BORROWED} is borrowed")
             };
-            assert_eq!((text, owned.as_str(), owned.as_ref()), ("linux", "linux", "linux"));
+            assert_eq!([text, owned.as_str(), owned.as_ref()], ["linux"; 3]);
             assert_eq!((&owned, owned.cmp(&BORROWED)), (&BORROWED, Ordering::Equal));
             assert!(owned > $field::new("Linux"));
             println!("{owned} {owned:?} [{owned:>9}] [{owned:.2}] {owned:#?}");
-        )*
+        })*
     };
 }
 
 fn print_all_fields() {
-    // The braces keep the constants apart.
-    {
-        print_fields!(Triple);
-    }
-    {
-        print_fields!(Abi);
-    }
-    {
-        print_fields!(Arch);
-    }
-    {
-        print_fields!(Vendor);
-    }
-    {
-        print_fields!(Os);
-    }
-    {
-        print_fields!(Family);
-    }
-    {
-        print_fields!(Env);
-    }
-    {
-        print_fields!(Panic);
-    }
+    print_fields!(Triple Abi Arch Vendor Os Family Env Panic);
 }
 
 /// Prints what the lists of families and of widths do.
