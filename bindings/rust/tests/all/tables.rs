@@ -239,7 +239,7 @@ fn what_reasons_and_faults_print() {
     assert_eq!(error.to_string(), "ab\n^ unopened quotes");
 }
 
-/// The page on calls from Rust says so. Fields are looked at beside the named values.
+/// `cfg-expr` ignores a width too. Fields are looked at beside the named values.
 #[test]
 fn a_width_in_a_format_does_not_count() {
     let expression = Expression::parse("cfg(a)").unwrap();
