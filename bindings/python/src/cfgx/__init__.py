@@ -37,7 +37,7 @@ from ._predicates import (
 )
 from ._targets import rustc_version, target_facts, targets
 
-__version__ = "2.3.0"
+__version__ = "2.2.1"
 __all__ = [
     "Decision", "Expression", "FactError", "Kind", "ParseError", "Predicate", "Reason",
     "RustcError", "audit", "debug_assertions", "feature", "flag", "key_value", "panic", "parse",

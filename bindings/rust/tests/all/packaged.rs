@@ -53,7 +53,7 @@ fn the_package_is_built_from_its_own_files() {
     let words = ["package", "--allow-dirty", "--quiet"];
     let mut command = programs::cargo(&folder, &words);
     programs::succeed(command.env_remove("CFGX_LIB_DIR"));
-    let unpacked = folder.join("target/package/cfgx-1.0.0");
+    let unpacked = folder.join(concat!("target/package/cfgx-", env!("CARGO_PKG_VERSION")));
     for file in [
         "NOTICE",
         "README.md",
