@@ -1,0 +1,93 @@
+"""What is asked of the repository, of its commit, and of the kit that built it."""
+import os
+import posixpath
+import re
+import subprocess
+import time
+from typing import Dict, List, NamedTuple
+
+ROOT = os.path.dirname(os.path.dirname(os.path.abspath(__file__)))
+BUILT = "out/cfgx"
+HEADER = "crates/cfgx_c/include/cfgx.h"
+PROJECT = "bindings/python/pyproject.toml"
+
+# A block of code on a page, and a link or a picture.
+BLOCK = re.compile(r"(^```.*?^```$)", re.M | re.S)
+LINK = re.compile(r"(!?)\[([^\]]+)\]\(([^)\s#]*)(#[^)\s]*)?\)")
+
+
+class Commit(NamedTuple):
+    """The commit that files are made of."""
+    name: str
+    seconds: int
+    is_changed: bool
+
+    def date(self) -> str:
+        """Returns its time, in UTC."""
+        return time.strftime("%Y-%m-%d %H:%M:%S UTC", time.gmtime(self.seconds))
+
+
+def output_of(*words: str) -> str:
+    """Returns what a command prints at the top of the repository."""
+    return subprocess.run(words, cwd=ROOT, check=True, stdout=subprocess.PIPE).stdout.decode()
+
+
+def read(path: str) -> bytes:
+    """Returns the bytes of a file of the repository."""
+    with open(os.path.join(ROOT, path), "rb") as file:
+        return file.read()
+
+
+def read_text(path: str) -> str:
+    """Returns the text of a file of the repository."""
+    return read(path).decode()
+
+
+def version() -> str:
+    """Returns the version of everything that a release has, which stands in the header."""
+    numbers = re.findall(r"^#define CFGX_VERSION_[A-Z]+ (\d+)$", read_text(HEADER), re.M)
+    return ".".join(numbers)
+
+
+def project(name: str) -> List[str]:
+    """Returns what stands in quotes in the line of this name in the project of the package."""
+    line, = re.findall(rf"^{name} = (.*)$", read_text(PROJECT), re.M)
+    return re.findall(r'"(.*?)"', line)
+
+
+def commit() -> Commit:
+    """Returns the commit of the repository."""
+    name, seconds = output_of("git", "log", "-1", "--format=%H %ct").split()
+    words = ["git", "--no-optional-locks", "status", "--porcelain", "--untracked-files=no"]
+    is_changed = bool(output_of(*words))
+    return Commit(name, int(seconds), is_changed)
+
+
+def tracked(*paths: str) -> List[str]:
+    """Returns the files of the commit below these paths."""
+    return [path for path in output_of("git", "ls-files", "-z", "--", *paths).split("\0") if path]
+
+
+def kit() -> Dict[str, str]:
+    """Returns what `rt version` prints, and what the kit says of its origin, line by line."""
+    page = output_of("rt", "doc").strip()
+    with open(os.path.join(os.path.dirname(page), "WHAT"), encoding="utf-8") as file:
+        told = dict(line.split() for line in file)
+    return {**told, "version": output_of("rt", "version").strip()}
+
+
+def relinked(page: str, places: Dict[str, str]) -> str:
+    """Returns the text of a page for an archive, where each file of the repository has its place.
+    Links lead to these places. What has none is named without a link."""
+    def link(found: "re.Match[str]") -> str:
+        mark, name, target, part = found.groups(default="")
+        if "://" in target or not target:
+            return found[0]
+        path = posixpath.normpath(posixpath.join(posixpath.dirname(page), target))
+        if path not in places:
+            return name
+        here = posixpath.dirname(places[page]) or "."
+        return f"{mark}[{name}]({posixpath.relpath(places[path], here)}{part})"
+
+    parts = BLOCK.split(read_text(page))
+    return "".join(part if at % 2 else LINK.sub(link, part) for at, part in enumerate(parts))

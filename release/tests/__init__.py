@@ -1,0 +1,74 @@
+"""Tests of the files that `release/make` put into `out/release`. `python3 -m unittest` in the
+folder `release` runs them.
+"""
+import os
+import subprocess
+import tempfile
+import unittest
+
+import repository
+
+FOLDER = os.path.join(repository.ROOT, "out", "release")
+VERSION = repository.version()
+C = f"cfgx-{VERSION}-x86_64-linux"
+RUST = f"cfgx-rust-{VERSION}"
+WHEEL = f"cfgx-{VERSION}-py3-none-manylinux_2_17_x86_64.manylinux2014_x86_64.whl"
+
+
+def is_of_a_user(folder):
+    """Returns whether a folder of the path is neither one of the repository nor one with `rt`."""
+    is_below = os.path.abspath(folder).startswith(repository.ROOT + os.sep)
+    return not is_below and not os.path.lexists(os.path.join(folder, "rt"))
+
+
+class User(unittest.TestCase):
+    """Someone who has these files in a folder, and neither the kit nor the repository. No variable
+    is set but for those below, and HOME is empty."""
+
+    def setUp(self):
+        room = tempfile.TemporaryDirectory()
+        self.addCleanup(room.cleanup)
+        self.folder = os.path.join(room.name, "files")
+        home = os.path.join(room.name, "home")
+        for folder in (self.folder, home):
+            os.mkdir(folder)
+        for name in os.listdir(FOLDER):
+            os.symlink(os.path.join(FOLDER, name), os.path.join(self.folder, name))
+        path = filter(is_of_a_user, os.environ["PATH"].split(os.pathsep))
+        self.variables = {"HOME": home, "PATH": os.pathsep.join(path)}
+        # Where rustup has its compilers, if `cargo` is a program of it.
+        rustup = os.environ.get("RUSTUP_HOME") or os.path.expanduser("~/.rustup")
+        if os.path.isdir(rustup):
+            self.variables["RUSTUP_HOME"] = rustup
+
+    def need(self, untested, *tools):
+        """Skips a test, and says what is not tested, if a tool does not run here."""
+        for tool in tools:
+            if self.run_words(*tool.split(), "--version").returncode:
+                self.skipTest(f"{untested}, since {tool} does not run here")
+
+    def run_words(self, *words, **variables):
+        """Runs a program in the folder. Returns its status and what it prints."""
+        try:
+            return subprocess.run(
+                words, cwd=self.folder, env={**self.variables, **variables}, check=False,
+                stdin=subprocess.DEVNULL, stdout=subprocess.PIPE, stderr=subprocess.STDOUT,
+                encoding="utf-8",
+            )
+        except FileNotFoundError as error:
+            return subprocess.CompletedProcess(words, 127, str(error))
+
+    def succeed(self, *words, **variables):
+        """Returns what a program prints, which has to succeed."""
+        run = self.run_words(*words, **variables)
+        self.assertEqual(run.returncode, 0, f"{words}: {run.stdout}")
+        return run.stdout
+
+    def unpacked(self, name):
+        """Unpacks an archive, and returns the path of its folder."""
+        self.succeed("tar", "-xzf", f"{name}.tar.gz")
+        return os.path.join(self.folder, name)
+
+    def lines_of(self, *words):
+        """Returns the lines that a program prints, which has to succeed."""
+        return self.succeed(*words).splitlines()

@@ -1,0 +1,67 @@
+"""The commands of docs/RELEASE.md, as they are printed."""
+import os
+import re
+import shlex
+
+from . import User
+
+import repository
+
+PAGE = repository.read_text("docs/RELEASE.md")
+
+
+def shown(section):
+    """Returns the lines of the commands of a section, and of what they print."""
+    text, = re.findall(rf"^## {re.escape(section)}\n(.*?)(?=^## |\Z)", PAGE, re.M | re.S)
+    return "".join(re.findall(r"^```console\n(.*?)^```$", text, re.M | re.S)).splitlines()
+
+
+def script_of(lines):
+    """Returns a script that prints each command and runs it. A command goes on in the lines that
+    begin with `>`."""
+    parts = []
+    for line in lines:
+        if line.startswith("$ "):
+            parts.append([line])
+        elif line == ">" or line.startswith("> "):
+            parts[-1].append(line)
+    script = ""
+    for part in parts:
+        command = "\n".join(line[2:] for line in part)
+        script += f"printf '%s\\n' {' '.join(map(shlex.quote, part))}\n{command}\n"
+    return script
+
+
+class Page(User):
+    """Each section in a shell and a folder of its own. If the variable SHOW is set, what is printed
+    is shown too."""
+
+    def check(self, *sections):
+        """Expects that the commands of these sections print what the page shows."""
+        wanted = [line for section in sections for line in shown(section)]
+        self.assertTrue(wanted)
+        run = self.run_words("bash", "-ec", script_of(wanted))
+        self.assertEqual(run.stdout.splitlines(), wanted)
+        self.assertEqual(run.returncode, 0)
+        if os.environ.get("SHOW"):
+            print("", run.stdout, sep="\n")
+
+    def test_c(self):
+        self.need("the library of a release", "cc", "pkg-config")
+        self.check("From C")
+
+    def test_python(self):
+        self.need("the wheel of a release", "python3 -m ensurepip")
+        self.check("From Python")
+
+    def test_manifest(self):
+        self.need("cfgx-deps of a release", "python3 -m ensurepip", "cargo")
+        self.check("From Python", "For a Cargo.toml")
+
+    def test_rust(self):
+        self.need("the crate of a release", "cargo", "rustc", "cc")
+        self.check("From Rust")
+
+    def test_sums(self):
+        command, = re.findall(r"`(sha256sum .*?)`", PAGE)
+        self.assertEqual(len(self.lines_of(*command.split())), 4)
