@@ -9,8 +9,8 @@ from cfgx import manifest
 from cfgx.manifest import _cargo
 
 HOST = "x86_64-unknown-linux-gnu"
-# What Cargo lists of a package with these tables: the name, what it renames, the kind, whether it
-# is optional, and the condition.
+# What Cargo lists of a package with these tables, in order: the name, what it renames, the kind,
+# whether it is optional, and the condition.
 TABLES = [
     ('[dependencies]\nz = "1"\na = "1"\n[dev-dependencies]\nb = "1"\n'
      '[build-dependencies]\nc = "1"\n[target."cfg(unix)".dependencies]\nq = "1"\n'
@@ -22,12 +22,21 @@ TABLES = [
       ("r", None, "build", False, "cfg(any(unix))"), ("q", None, "normal", False, "cfg(unix)")]),
     ('[dependencies]\nz = { version = "1", package = "a" }\n'
      'b = { version = "1", optional = true }\n[features]\nx = ["dep:b"]\n',
-     [("z", "a", "normal", False, None), ("b", None, "normal", True, None)]),
+     [("b", None, "normal", True, None), ("z", "a", "normal", False, None)]),
     ('[dependencies]\na = { workspace = true, optional = true }\nb = { workspace = true }\n'
      '[workspace.dependencies]\na = "1"\nb = { version = "1", package = "c" }\n',
      [("a", None, "normal", True, None), ("b", "c", "normal", False, None)]),
     ('[target.\'cfg( all( r#unix,not(a) ,))\'.dependencies]\na = "1"\n',
      [("a", None, "normal", False, "cfg(all(r#unix, not(a)))")]),
+    ('[target.t.dev-dependencies]\na = "1"\n[target.t.build-dependencies]\na = "1"\n'
+     '[target.t.dependencies]\nz = "1"\na = { version = "1", optional = true }\n',
+     [("a", None, "normal", True, "t"), ("z", None, "normal", False, "t"),
+      ("a", None, "build", False, "t"), ("a", None, "dev", False, "t")]),
+    ('[dev_dependencies]\na = "1"\n[dev-dependencies]\nb = "1"\n[build-dependencies]\nc = "1"\n'
+     '[build_dependencies]\nd = "1"\n',
+     [("b", None, "dev", False, None), ("c", None, "build", False, None)]),
+    ('[target."cfg(a)".dev_dependencies]\na = "1"\n[build_dependencies]\nb = "1"\n',
+     [("b", None, "build", False, None), ("a", None, "dev", False, "cfg(a)")]),
     ("", []),
 ]
 # The lines and the sources of a package: whether it has a build script, a macro, and something for
@@ -37,7 +46,13 @@ PARTS = [
     ("", ["src/main.rs", "build.rs"], (True, False, True)),
     ("[lib]\nproc-macro = true\n", ["src/lib.rs"], (False, True, False)),
     ('[lib]\ncrate-type = ["proc-macro"]\n', ["src/lib.rs"], (False, True, False)),
+    ('[lib]\nproc-macro = false\ncrate_type = ["proc-macro"]\n', ["src/lib.rs"],
+     (False, True, False)),
+    ("[lib]\nproc_macro = true\n", ["src/lib.rs"], (False, True, False)),
+    ("[lib]\nproc-macro = true\nproc_macro = false\n", ["src/lib.rs"], (False, True, False)),
+    ("[lib]\nproc-macro = false\nproc_macro = true\n", ["src/lib.rs"], (False, False, True)),
     ("[lib]\nproc-macro = false\n", ["src/lib.rs"], (False, False, True)),
+    ('[lib]\nproc-macro = true\ncrate-type = ["rlib"]\n', ["src/lib.rs"], (False, False, True)),
     ("[lib]\nproc-macro = true\n", ["src/lib.rs", "tests/t.rs"], (False, True, True)),
     ("[lib]\nproc-macro = true\n", ["src/lib.rs", "build.rs"], (True, True, False)),
     ('[[example]]\nname = "e"\ncrate-type = ["proc-macro"]\n', ["src/lib.rs", "examples/e.rs"],
@@ -69,7 +84,7 @@ class Listed(Folder):
             with self.subTest(text=text):
                 found = [(one.name, one.renamed_from, one.kind, one.is_optional, one.condition)
                          for one in self.listed(text).dependencies]
-                self.assertEqual(sorted(found, key=str), sorted(wanted, key=str))
+                self.assertEqual(found, wanted)
                 self.assertEqual({one.package for one in self.listed(text).dependencies},
                                  {"a"} if wanted else set())
 
@@ -80,6 +95,14 @@ class Listed(Folder):
                 one = self.listed(text, *sources)
                 found = one.has_build_script, one.has_macro, one.has_target_units
                 self.assertEqual(found, wanted)
+
+    def test_the_order_of_parts(self):
+        for kinds in (("proc-macro", "bin"), ("bin", "proc-macro", "test")):
+            targets = [{"kind": [kind], "crate_types": [kind]} for kind in kinds]
+            one = _cargo.package_of(
+                {"name": "a", "manifest_path": "/a", "targets": targets, "dependencies": []}
+            )
+            self.assertEqual((one.has_macro, one.has_target_units), (True, True))
 
     def test_what_cargo_refuses(self):
         for text, words in REFUSED:
@@ -116,6 +139,11 @@ class Listed(Folder):
                 manifest.report(root, packages=["one", name])
             message = f"the workspace has no package {name}{hint}"
             self.assertEqual(str(caught.exception), message)
+
+    def test_a_workspace_with_one_member(self):
+        self.write_package("one", '[dependencies]\nb = "1"')
+        [row] = manifest.report(self.write_workspace("one")).rows
+        self.assertEqual((row.dependency.package, row.dependency.name), ("one", "b"))
 
     def test_a_root_with_a_package(self):
         self.write_package("two", '[dependencies]\nb = "1"')
@@ -183,6 +211,12 @@ class Started(Folder):
             manifest.report(self.folder)
         self.assertEqual(str(caught.exception),
                          "there is no cargo on the path, and only cargo reads a manifest")
+
+    def test_cargo_that_names_no_host(self):
+        for printed in ("", "hosts: none", "none: a"):
+            found = self.start(f"#!/bin/sh\n[ $1 != -vV ] || exec echo '{printed}'\n"
+                               "echo '{\"packages\": []}'\n")
+            self.assertEqual(found, "cargo -vV names no host")
 
     def test_no_manifest(self):
         with unittest.mock.patch("os.getcwd", lambda: self.folder), \

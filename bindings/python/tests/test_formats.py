@@ -70,6 +70,16 @@ class Table(unittest.TestCase):
             "host h; 3 rows: 2 yes, 1 unknown",
         ])
 
+    def test_marks(self):
+        rows = [
+            ("normal", False, "a"), ("normal", True, "a (optional)"),
+            ("dev", False, "a (dev)"), ("dev", True, "a (dev, optional)"),
+            ("build", False, "a (build)"), ("build", True, "a (build, optional)"),
+        ]
+        for kind, is_optional, wanted in rows:
+            made = row("a", "y", kind=kind, is_optional=is_optional)
+            self.assertEqual(_table.name_of(made), wanted)
+
     def test_packages(self):
         found = lines(report(row("a", "y"), row("b", "n", package="q"), targets=()))
         self.assertEqual(found[:3], [
@@ -256,6 +266,14 @@ class Hostile(unittest.TestCase):
             text = "\n".join(_formats.json_of(made, is_summary))
             self.assertTrue(text.isascii() and text.replace("\n", "").isprintable())
             self.assertEqual(json.loads(text)["dependencies"][0]["package"], HOSTILE)
+
+    def test_what_is_escaped(self):
+        # The control characters C0 and C1, and what sets a direction or ends a line.
+        escaped = {*range(0x20), *range(0x7F, 0xA0), *range(0x202A, 0x202F), *range(0x2066, 0x206A),
+                   0x200E, 0x200F, 0x061C, 0x2028, 0x2029}
+        for number in sorted(escaped):
+            found = _table.shown(f"a{chr(number)}b")
+            self.assertRegex(found, r"\Aa\\([nrt]|x[0-9a-f]{2}|u[0-9a-f]{4})b\Z")
 
     def test_what_is_shown_as_it_is(self):
         text = "".join(map(chr, range(0x20, 0x7F))) + "é日𝄞"

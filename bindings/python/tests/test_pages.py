@@ -86,6 +86,12 @@ class Manifests(Shell):
         example = doctest.DocTestParser().get_doctest(text, {}, "MANIFESTS.md", MANIFESTS_PAGE, 0)
         self.assertEqual(doctest.DocTestRunner().run(example).failed, 0)
 
+    def test_commands_take_no_module_of_the_folder(self):
+        for page in (PAGE, MANIFESTS_PAGE, README):
+            texts = [text for _, text in blocks(page)]
+            self.assertTrue(any("cfgx-deps" in text for text in texts), page)
+            self.assertFalse(any("-m cfgx" in text for text in texts), page)
+
     def test_options(self):
         with open(MANIFESTS_PAGE, encoding="utf-8") as file:
             table = re.findall(r"^\| (`[^|]*) \|", file.read().split("| option |")[1], re.M)

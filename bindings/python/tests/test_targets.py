@@ -138,10 +138,10 @@ class Table(unittest.TestCase):
                 with self.assertRaisesRegex(error, "the package cfgx"):
                     _targets.table.__wrapped__()
 
-
     def test_pages_name_the_compiler(self):
         shown = f" {len(cfgx.targets())} targets of rustc {cfgx.rustc_version()}"
-        for name in ("CHANGELOG.md", "docs/RUST.md", "docs/PYTHON.md", "bindings/rust/README.md"):
+        for name in ("CHANGELOG.md", "docs/MANIFESTS.md", "docs/PYTHON.md", "docs/RUST.md",
+                     "bindings/rust/README.md"):
             with open(os.path.join(ROOT, name), encoding="utf-8") as page:
                 self.assertIn(shown, " ".join(page.read().split()), name)
 

@@ -9,8 +9,9 @@ import cfgx
 from cfgx import manifest
 from cfgx.manifest import Value, _conditions, _platforms
 
-LINUX, WINDOWS, MUSL = (
-    "x86_64-unknown-linux-gnu", "x86_64-pc-windows-gnu", "x86_64-unknown-linux-musl"
+LINUX, WINDOWS, MUSL, PHONE = (
+    "x86_64-unknown-linux-gnu", "x86_64-pc-windows-gnu", "x86_64-unknown-linux-musl",
+    "aarch64-apple-ios",
 )
 # What the engine refuses and Cargo accepts: a condition, its value on Linux, the flag that is its
 # text, and the characters at fault.
@@ -38,7 +39,8 @@ ACCEPTED = [
     ('target_pointer_width = "64"', True), ('target_pointer_width = "064"', False),
     ('target_has_atomic = "8"', True), ('target_has_atomic = "+8"', False),
     ('not(target_has_atomic = "08")', True), ('target_endian = "little"', True),
-    ('target_feature = "sse2"', True), ('target_feature = "crt-static"', False),
+    ('target_feature = "sse2"', True), ('target_feature = "neon"', False),
+    ('target_feature = "crt-static"', False),
     ("debug_assertions", True), ("test", False), ("proc_macro", False), ('feature = "x"', False),
     ('panic = "unwind"', True), ('target_abi = ""', True), ('feature = "é, all(x)"', False),
     ("any(loom, not(loom))", True), ("all(loom, r#loom, not(loom))", False),
@@ -128,7 +130,8 @@ class Conditions(unittest.TestCase):
             self.assertEqual(_conditions.values_of([key], platforms)[key].on, wanted)
 
     def test_what_is_no_condition(self):
-        for text in ("cfg(", "cfg()", "cfg(all(unix)", "cfg(a b)", "cfg(é)"):
+        for text in ("cfg(", "cfg()", "cfg(all(unix)", "cfg(a b)", "cfg(é)", "cfg(unix",
+                     "cfg(unix) ", "cfg(unix)x", "cfg(all()"):
             with self.subTest(text=text), self.assertRaises(manifest.CargoError) as caught:
                 _conditions.values_of([text], [])
             self.assertIn("is no condition", str(caught.exception))
@@ -149,7 +152,7 @@ class UnitGraph(Folder):
     def test_conditions_on_targets(self):
         wanted = {**{text: value for text, value, _, _ in REFUSED}, **dict(ACCEPTED)}
         path = self.write_conditions(wanted)
-        for triple in (LINUX, WINDOWS, MUSL):
+        for triple in (LINUX, WINDOWS, MUSL, PHONE):
             # Another compiler than that of the table may print other facts, as a nightly does.
             report = manifest.report(path, [triple], has_other_flags=False, asks_rustc=True)
             self.assert_is_built(report, self.graph_of(path, triple))

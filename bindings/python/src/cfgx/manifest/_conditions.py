@@ -18,6 +18,7 @@ from ._platforms import Platform
 
 # A word of a condition as Cargo prints it, with its value. What a function begins is no predicate.
 WORD = re.compile(rf'{KEY}(?: = ("[^"]*"))?(\()?')
+CONDITION = re.compile(r"cfg\((.*)\)", re.DOTALL)
 # How many times a condition is evaluated to find answers for one that is unknown.
 MOST_TRIED = 4096
 
@@ -68,8 +69,9 @@ class Texts:
     def compiled(self, condition: str) -> Expression:
         """Returns a condition over flags. Raises `CargoError` if it is none, for then it is not
         Cargo that lists it."""
+        found = CONDITION.fullmatch(condition)
         try:
-            return parse(WORD.sub(self._flag_for, condition[len("cfg("):-1]))
+            return parse(WORD.sub(self._flag_for, found[1] if found else ""))
         except ParseError as error:
             raise CargoError(f"cargo lists {condition}, which is no condition") from error
 
