@@ -114,7 +114,7 @@ class Statuses(Made):
             (["a", "b"], "unrecognized arguments: b"),
             (["--target"], "--target: expected one argument"),
             (["--format", "xml"], "invalid choice: 'xml'"), (["--targ", HOST], "--targ"),
-            (["--target", "x\x1b"], r"x\x1b"),
+            (["--target", "x\x1b"], r"x\x1b"), (["--host", "x\x1b"], r"x\x1b"),
             (["--kind", "normal,test"], "test is no kind"), (["--cfg", "a=b"], "a=b is no flag"),
             (["--fail-on", "no"], "--fail-on takes unknown and never, and not no"),
             (["-p", "q\u202e"], r"the workspace has no package q\u202e"),
@@ -249,6 +249,17 @@ class Options(Made):
             self.assertEqual(self.rows(*words)[0], {"a": wanted})
         self.assertEqual(len(self.rows("--target", "all")[0]["a"]), 1 + len(cfgx.targets()))
 
+    def test_another_host(self):
+        self.list(dependency_of("a", "cfg(unix)"), dependency_of("b", WINDOWS, kind="build"))
+        rows = [
+            ([], [["yes"], ["no"]]), (["--host", WINDOWS], [["no"], ["yes"]]),
+            (["--target", HOST, "--host", WINDOWS], [["-", "yes"], ["yes", "-"]]),
+            (["--host", WINDOWS, "--target", "host-tuple"], [["-", "no"], ["yes", "-"]]),
+        ]
+        for words, wanted in rows:
+            self.assertEqual(list(self.rows(*words)[0].values()), wanted)
+        self.assertIn(f"\nhost {WINDOWS}; ", self.command("--host", WINDOWS)[1])
+
     def test_two_files_with_one_name(self):
         paths = [self.write(f"{place}/t.cfg", FACTS) for place in ("a", "b")]
         found = self.command("--facts", paths[0], "--facts", paths[1])
@@ -322,9 +333,9 @@ class Options(Made):
     def test_help(self):
         status, output, message = self.command("--help")
         self.assertEqual((status, message), (0, ""))
-        for word in ("MANIFEST", "--target", "--workspace", "-p", "--kind", "--version", "--facts",
-                     "--rustc", "--cfg", "--no-other-cfg", "--rustflags", "--format", "--summary",
-                     "--fail-on", "--wide"):
+        for word in ("MANIFEST", "--target", "--host", "--facts", "--rustc", "--workspace", "-p",
+                     "--kind", "--cfg", "--no-other-cfg", "--rustflags", "--format", "--summary",
+                     "--fail-on", "--wide", "--version"):
             self.assertIn(word, output)
 
 
@@ -374,7 +385,7 @@ class Folders(Made):
         self.setUp()
         mark = os.path.join(self.folder, "mark")
         self.write(f"audited/{name}", f"open({mark!r}, 'w').close()\n")
-        found = self.command("--target", WINDOWS, **options)
+        found = self.command("--target", WINDOWS, self.path, **options)
         is_run = os.path.exists(mark)
         self.assertTrue(is_run or found == (0, TABLE, ""), found)
         return is_run
@@ -390,6 +401,11 @@ class Folders(Made):
     @needs("Python 3.11", untested="python3 -P in a folder with modules")
     def test_safe_path(self):
         found = [self.runs(name, start=["-P", "-m", "cfgx"]) for name in self.MODULES]
+        self.assertEqual(found, [False] * 4)
+
+    def test_another_folder(self):
+        found = [self.runs(name, start=["-m", "cfgx"], shell='cd / && exec "$@"')
+                 for name in self.MODULES]
         self.assertEqual(found, [False] * 4)
 
     def test_python_takes_modules_of_the_folder(self):

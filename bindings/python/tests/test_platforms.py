@@ -46,6 +46,16 @@ ARGUMENTS = [
 ]
 # Lines that rustc prints for every target.
 WHOLE = 'target_arch="arm"\ntarget_endian="little"\ntarget_pointer_width="32"\n'
+# A compiler that runs on another host.
+ON_HOST = """\
+#!/bin/sh
+unset RUSTC_BOOTSTRAP
+case " $* " in
+*" -vV "*) rustc "$@" | sed "s/^host: .*/host: {host}/" ;;
+*" --target "*) exec rustc "$@" ;;
+*) exec rustc --target {host} "$@" ;;
+esac
+"""
 LINES = {
     LINUX: ["unix", 'target_os="linux"', "proc_macro", "debug_assertions"],
     WINDOWS: ["windows", 'target_os="windows"'],
@@ -68,10 +78,10 @@ class Table:
         return LINES[triple] + (["flagged"] if is_with_flags else [])
 
 
-def platforms_of(targets=(), facts=None, **options):
+def platforms_of(targets=(), facts=None, host=None, **options):
     """Returns the platforms over facts that are made up."""
     flags = _platforms.Flags(**options)
-    return _platforms.platforms_of(Table(), targets, facts or {}, flags)
+    return _platforms.platforms_of(Table(), targets, facts or {}, flags, host)
 
 
 class Platforms(unittest.TestCase):
@@ -93,6 +103,21 @@ class Platforms(unittest.TestCase):
             self.assertLessEqual({"windows", "loom", 'a="b"'}, target.facts)
             self.assertTrue(target.has_other_flags)
             self.assertEqual((target.name, target.is_host), (WINDOWS, False))
+
+    def test_a_host_that_is_named(self):
+        [host] = platforms_of(host=WINDOWS, names=("loom",))
+        self.assertEqual((host.name, host.triple, host.is_host), ("host", WINDOWS, True))
+        self.assertEqual(host.facts, {"windows", 'target_os="windows"', "flagged", "loom"})
+        host, target = platforms_of(["host-tuple"], host=WINDOWS)
+        self.assertEqual(host.facts, {"windows", 'target_os="windows"'})
+        self.assertEqual((target.name, target.is_host), (WINDOWS, False))
+
+    def test_facts_of_a_host_that_is_named(self):
+        rows = [("t", {"a"}), (WINDOWS, {"windows", 'target_os="windows"'})]
+        for triple, wanted in rows:
+            host, target = platforms_of(host=triple, facts={triple: ["a"]})
+            self.assertEqual((host.triple, host.facts), (triple, wanted))
+            self.assertEqual((target.triple, target.facts), (triple, {"a"}))
 
     def test_names_of_targets(self):
         rows = [
@@ -211,6 +236,7 @@ class Sources(Folder):
             ("#!/nowhere\n", "could not be run: "),
             ("#!/bin/sh\necho oh >&2; exit 1\n", "refuses -vV:\n    oh"),
             ("#!/bin/sh\nkill -KILL $$\n", "refuses -vV:\n    "), ("#!/bin/sh\n", "names no host"),
+            ("#!/bin/sh\nprintf 'hosts: none\\nnone: a\\n'\n", "names no host"),
         ]
         for script, message in rows:
             program = self.write_program("rustc", script)
@@ -218,6 +244,15 @@ class Sources(Folder):
             with self.subTest(script=script), self.assertRaises(manifest.CompilerError) as caught:
                 compiler.host()
             self.assertIn(message, str(caught.exception))
+
+    def test_lines_of_a_compiler_that_are_no_facts(self):
+        rows = [("unix\\n\\377", 2, "\ufffd"), ("all(\\033\\n", 1, r"all(\x1b")]
+        for printed, number, line in rows:
+            program = self.write_program("rustc", f"#!/bin/sh\nprintf '{printed}'\n")
+            compiler = _platforms.Compiler(_platforms.Flags(), {"RUSTC": program})
+            with self.subTest(line=line), self.assertRaises(manifest.FactsError) as caught:
+                _platforms.facts_in(compiler.lines("t", True), "t")
+            self.assertEqual(str(caught.exception), f"line {number} of t is no fact: {line}")
 
     def test_configurations(self):
         rows = [
@@ -288,6 +323,19 @@ class UnitGraph(Folder):
             self.assert_is_built(report, self.graph_of(path, *targets, rustc=rustc))
             self.assertIn((Value.YES, "cfg(fast)"),
                           {(row.values[-1], row.dependency.condition) for row in report.rows})
+
+    def test_another_host(self):
+        path = self.write_conditions("unix", "windows", 'target_arch = "x86"')
+        host = "i686-pc-windows-gnu"
+        rustc = self.write_program("own/rustc", ON_HOST.format(host=host))
+        ways = [{"host": host}, {"asks_rustc": True, "environment": {"RUSTC": rustc}},
+                {"asks_rustc": True, "host": host}]
+        for targets in ([LINUX], [host], []):
+            units = self.graph_of(path, *targets, rustc=rustc)
+            for options in ways:
+                report = manifest.report(path, targets, has_other_flags=False, **options)
+                self.assertEqual(report.platforms[0].triple, host)
+                self.assert_is_built(report, units)
 
     def test_a_configuration(self):
         path = self.write_conditions("loom", "tokio_unstable")

@@ -46,6 +46,8 @@ def parser() -> Parser:
         help="a Cargo.toml or its folder; without one, the first in this folder or above it")
     add("--target", metavar="TRIPLE", action="append", default=[],
         help="a target, host-tuple, or all; without one, everything is built for the host")
+    add("--host", metavar="TRIPLE",
+        help="the host, if it is not the machine that runs cargo or, with --rustc, rustc")
     add("--facts", metavar="FILE", action="append", default=[],
         help="a target by the lines that rustc prints; its triple is the name of the file")
     add("--rustc", action="store_true",
@@ -92,6 +94,7 @@ def report_of(words: argparse.Namespace) -> Report:
         words.manifest, words.target, packages=words.package, is_workspace=words.workspace,
         kinds=kinds, facts=facts_of(words.facts), flags=words.cfg,
         has_other_flags=not words.no_other_cfg, rustflags=rustflags, asks_rustc=words.rustc,
+        host=words.host,
     )
 
 

@@ -2,7 +2,7 @@
 import dataclasses
 import os
 import subprocess
-from typing import FrozenSet, Iterable, List, Mapping, Sequence, Tuple, Union
+from typing import FrozenSet, Iterable, List, Mapping, Optional, Sequence, Tuple, Union
 
 import cfgx
 
@@ -157,14 +157,15 @@ def read_facts(path: str) -> Tuple[str, List[str]]:
 
 
 def platforms_of(
-    source: Source, targets: Sequence[str], facts: Mapping[str, Iterable[str]], flags: Flags
+    source: Source, targets: Sequence[str], facts: Mapping[str, Iterable[str]], flags: Flags,
+    host: Optional[str] = None,
 ) -> List[Platform]:
     """Returns the host, the targets with these names, and those with these facts. No flag reaches
-    the host if there is a target."""
-    host = source.host()
+    the host if there is a target. Without a triple, the host is that of the source."""
+    host = source.host() if host is None else host
     named = [triple for name in targets for triple in triples_of(source, name, host)]
     texts, is_alone = flags.texts(), not named and not facts
-    on_host = facts_in(source.lines(host, is_alone), host)
+    on_host = facts_in(lines_on_host(source, host, facts, is_alone), host)
     if is_alone:
         return [platform(HOST, host, on_host | texts, flags.has_others)]
     platforms = [platform(HOST, host, on_host, False)]
@@ -175,6 +176,16 @@ def platforms_of(
             platform(triple, triple, facts_in(lines, triple) | texts, flags.has_others)
         )
     return platforms
+
+
+def lines_on_host(
+    source: Source, host: str, facts: Mapping[str, Iterable[str]], is_with_flags: bool
+) -> Iterable[str]:
+    """Returns the facts of the host. Those of a caller may have flags, which do not reach the host
+    beside a target. So they are taken only if the source does not have the host."""
+    if host in facts and host not in source.targets():
+        return facts[host]
+    return source.lines(host, is_with_flags)
 
 
 def platform(name: str, triple: str, facts: FrozenSet[str], has_other_flags: bool) -> Platform:

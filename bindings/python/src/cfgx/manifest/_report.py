@@ -64,7 +64,7 @@ def report(
     kinds: Sequence[str] = _cargo.KINDS, facts: Optional[Mapping[str, Iterable[str]]] = None,
     flags: Sequence[str] = (), has_other_flags: bool = True,
     rustflags: Optional[Sequence[str]] = None, asks_rustc: bool = False,
-    environment: Optional[Mapping[str, str]] = None,
+    host: Optional[str] = None, environment: Optional[Mapping[str, str]] = None,
 ) -> Report:
     """Returns which dependencies of a manifest Cargo takes, on the host and on targets.
 
@@ -79,6 +79,8 @@ def report(
     - `flags` are set, as `rustc --cfg` takes them. `has_other_flags` is whether others may be.
     - `rustflags` are the arguments of rustc in `RUSTFLAGS`, divided.
     - `asks_rustc` lets `$RUSTC`, or the `rustc` on the path, say the facts.
+    - `host` is the triple of the host. Without one it is what `cargo -vV` names, or `rustc -vV`
+      with `asks_rustc`.
     - `environment` has the variables that Cargo reads, if not those of the process.
 
     Raises a `ManifestError`.
@@ -94,7 +96,7 @@ def report(
     path = _cargo.manifest_at(manifest)
     workspace = _cargo.workspace_of(path)
     chosen = workspace.chosen(packages, is_workspace)
-    platforms = _platforms.platforms_of(source, targets, facts or {}, known)
+    platforms = _platforms.platforms_of(source, targets, facts or {}, known, host)
     rows = rows_of(workspace.packages, chosen, kinds, platforms)
     return Report(path, tuple(platforms), tuple(rows), tuple(notes_on(path, rustflags, variables)))
 
