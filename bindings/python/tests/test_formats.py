@@ -170,8 +170,27 @@ class Table(unittest.TestCase):
             ["d", "0", "0", "4", "cfg(d)"],
             ["e", "3", "3", "0", "yes: t1, t2, t3", "cfg(e)"],
         ])
+    def test_a_summary_of_many(self):
         more = report(row("a", "-yyyyynnnnnn", "cfg(a)"), targets=[f"t{n}" for n in range(11)])
         self.assertIn("  yes: t0, t1, t2, ..  ", list(_table.summary_table_of(more, None))[1])
+
+
+    def test_a_summary_that_is_too_wide(self):
+        names = [f"target-{number}" for number in range(5)]
+        condition = f"cfg({'x' * 40})"
+        made = report(row("a", "-yynnn", condition), row("b", "-nnnnn", "cfg(b)", is_never=True),
+                      targets=names)
+        group = "yes: target-0, target-1"
+        whole = list(_table.summary_table_of(made, None))
+        self.assertEqual(list(_table.summary_table_of(made, len(whole[1]))), whole)
+        self.assertEqual(list(_table.summary_table_of(made, 54))[:7], [
+            "dependency  yes  no  unknown  condition",
+            f"a           2    3   0        {condition[:22]}..",
+            "b           0    5   0        cfg(b)", "",
+            "dependency  smaller group", f"a           {group}", "b           never",
+        ])
+        cut = list(_table.summary_table_of(made, 34))
+        self.assertIn(f"a           {group[:20]}..", cut)
 
 
 class Programs(unittest.TestCase):

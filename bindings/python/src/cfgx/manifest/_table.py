@@ -5,7 +5,7 @@ from typing import Dict, Iterator, List, Optional, Sequence, Tuple
 from ._conditions import Unknown
 from ._errors import shown
 from ._report import Report, Row, Value
-from ._summary import MOST_NAMED, summary_of
+from ._summary import MOST_NAMED, Summary, summary_of
 
 GAP = "  "
 CUT = ".."
@@ -49,19 +49,28 @@ def table_of(report: Report, width: Optional[int]) -> Iterator[str]:
 
 
 def summary_table_of(report: Report, width: Optional[int]) -> Iterator[str]:
-    """Yields the lines of a table with the number of platforms that have each value."""
+    """Yields the lines of a table with the number of platforms that have each value. If it exceeds
+    the width, the smaller groups are a table of their own, below the numbers."""
     summaries = [summary_of(row, report.platforms) for row in report.rows]
-    columns = [
+    counts = [
         [value.value, *(str(summary.counts[value]) for summary in summaries)] for value in COUNTED
     ]
-    smaller = ["smaller group"]
-    for row, summary in zip(report.rows, summaries):
-        more = summary.smaller is not None and summary.counts[summary.smaller] > MOST_NAMED
-        names = ", ".join([*summary.names, *([CUT] if more else [])])
-        found = "" if summary.smaller is None else f"{summary.smaller.value}: {names}"
-        smaller.append("never" if row.is_never else shown(found))
-    yield from lines_of(fronts_of(report), [*columns, smaller], conditions_of(report), width)
+    smaller = ["smaller group", *map(smaller_group_of, report.rows, summaries)]
+    fronts, last, columns = fronts_of(report), conditions_of(report), [*counts, smaller]
+    if width is None or len(blocks_of(fronts, columns, last, width)) == 1:
+        yield from lines_of(fronts, columns, last, width)
+    else:
+        yield from lines_of(fronts, counts, last, width)
+        yield from lines_of(fronts, [], smaller, width)
     yield from ends_of(report, width)
+
+
+def smaller_group_of(row: Row, summary: Summary) -> str:
+    """Returns the cell with the value of the smaller group, and the names of its platforms."""
+    if row.is_never or summary.smaller is None:
+        return "never" if row.is_never else ""
+    more = [CUT] if summary.counts[summary.smaller] > MOST_NAMED else []
+    return shown(f"{summary.smaller.value}: {', '.join([*summary.names, *more])}")
 
 
 def fronts_of(report: Report) -> List[Column]:
@@ -91,12 +100,11 @@ def blocks_of(
     fronts: Sequence[Column], columns: Sequence[Column], last: Column, width: int
 ) -> List[List[Column]]:
     """Returns the columns in blocks that fit into a width, with those in front and with the last
-    one, which may be cut."""
-    room = width - sum(map(width_of, fronts)) - min(LEAST, width_of(last))
-    blocks: List[List[Column]] = []
-    left = 0
+    one, which may be cut. There is at least one block."""
+    left = room = width - sum(map(width_of, fronts)) - min(LEAST, width_of(last))
+    blocks: List[List[Column]] = [[]]
     for column in columns:
-        if not blocks or width_of(column) > left:
+        if blocks[-1] and width_of(column) > left:
             blocks.append([])
             left = room
         blocks[-1].append(column)
