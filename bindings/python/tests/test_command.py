@@ -198,12 +198,28 @@ class Statuses(Made):
     @needs("/dev/full", untested="an output on a full device")
     def test_a_full_device(self):
         message = "cfgx-deps: the output could not be written: No space left on device\n"
-        with open("/dev/full", "w") as full:
-            self.assertEqual(self.command(stdout=full), (1, "", message))
+        for words in ([], ["--version"], ["--help"]):
+            with open("/dev/full", "w") as full:
+                self.assertEqual(self.command(*words, stdout=full), (1, "", message))
 
     def test_a_closed_output(self):
         message = "cfgx-deps: the output is closed\n"
-        self.assertEqual(self.command(shell='"$@" >&-'), (1, "", message))
+        for words in ([], ["--version"], ["--help"]):
+            self.assertEqual(self.command(*words, shell='"$@" >&-'), (1, "", message))
+
+    @needs("/dev/full", untested="messages on a full device")
+    def test_messages_that_cannot_be_printed(self):
+        # The environment has flags, of which a note tells.
+        self.list(dependency_of(target='cfg(target_os = "")'))
+        table = TABLE.replace("cfg(unix)", 'cfg(target_os = "")')
+        rows = [([], 0, table), (["--fail-on", "never"], 1, table), (["--none"], 2, ""),
+                (["--kind", "x"], 2, ""), (["--facts", "none.cfg"], 1, "")]
+        for words, status, output in rows:
+            for closing in ("2> /dev/full", "2>&-"):
+                with self.subTest(words=words, closing=closing):
+                    found = self.command(*words, "--target", WINDOWS, shell=f'"$@" {closing}',
+                                         RUSTFLAGS="--cfg a")
+                    self.assertEqual(found, (status, output, ""))
 
     def test_a_reader_that_has_enough(self):
         reader, writer = os.pipe()

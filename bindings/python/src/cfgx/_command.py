@@ -3,7 +3,7 @@ import argparse
 import os
 import shutil
 import sys
-from typing import Dict, Iterable, Iterator, List, NoReturn, Optional, Sequence
+from typing import Dict, Iterable, Iterator, List, NoReturn, Optional, Sequence, TextIO
 
 from . import __version__
 from .manifest import ManifestError, Report, RequestError, Value, report
@@ -30,8 +30,8 @@ class Parser(argparse.ArgumentParser):
 
     def error(self, message: str) -> NoReturn:
         """Prints what is wrong with the arguments, and ends."""
-        self.print_usage(sys.stderr)
-        self.exit(MISUSED, f"{self.prog}: error: {shown(message)}\n")
+        complain(f"error: {shown(message)}", self.format_usage())
+        sys.exit(MISUSED)
 
 
 class OutputError(Exception):
@@ -40,7 +40,8 @@ class OutputError(Exception):
 
 def parser() -> Parser:
     """Returns the parser of the arguments."""
-    made = Parser("cfgx-deps", description=DESCRIPTION, epilog=EPILOG, allow_abbrev=False)
+    made = Parser("cfgx-deps", description=DESCRIPTION, epilog=EPILOG, allow_abbrev=False,
+                  add_help=False)
     add = made.add_argument
     add("manifest", metavar="MANIFEST", nargs="?",
         help="a Cargo.toml or its folder; without one, the first in this folder or above it")
@@ -66,7 +67,8 @@ def parser() -> Parser:
         help="status 1 for a value that is unknown, or a condition that is never true; the rows"
              " are named on stderr")
     add("--wide", action="store_true", help="cut nothing to the width of the terminal")
-    add("--version", action="version", version=f"%(prog)s {__version__}")
+    add("--version", action="store_true", help="print the version of the package")
+    add("-h", "--help", action="store_true", help="print this")
     return made
 
 
@@ -118,17 +120,26 @@ def write(text: str) -> None:
     try:
         print(text.encode(encoding, "backslashreplace").decode(encoding), flush=True)
     except OSError as error:
-        # Python writes what is left at its end, which must not fail too.
-        os.dup2(os.open(os.devnull, os.O_WRONLY), sys.stdout.fileno())
+        abandon(sys.stdout)
         # If the pipe is broken, whoever reads has enough.
         if not isinstance(error, BrokenPipeError):
             raise OutputError(f"the output could not be written: {error.strerror}") from error
 
 
-def complain(message: str) -> None:
-    """Prints a message of several lines on stderr."""
-    if sys.stderr is not None:
-        print(f"cfgx-deps: {message}", file=sys.stderr)
+def abandon(stream: TextIO) -> None:
+    """Drops what a stream could not write. Python tries again at its end, which would fail too."""
+    os.dup2(os.open(os.devnull, os.O_WRONLY), stream.fileno())
+
+
+def complain(message: str, above: str = "") -> None:
+    """Prints a message of several lines on stderr, below other lines. If that fails, only the
+    status tells."""
+    if sys.stderr is None:
+        return
+    try:
+        print(f"{above}cfgx-deps: {message}", file=sys.stderr, flush=True)
+    except OSError:
+        abandon(sys.stderr)
 
 
 def reasons_to_fail(found: Report, wanted: Sequence[str]) -> Iterator[str]:
@@ -143,6 +154,9 @@ def reasons_to_fail(found: Report, wanted: Sequence[str]) -> Iterator[str]:
 
 def run(words: argparse.Namespace) -> int:
     """Prints what the arguments ask for, and returns the status."""
+    if words.help or words.version:
+        write(parser().format_help().rstrip() if words.help else f"cfgx-deps {__version__}")
+        return 0
     wanted = divided(words.fail_on)
     wrong = [one for one in wanted if one not in (UNKNOWN, NEVER)]
     if wrong:
