@@ -44,9 +44,9 @@ def audit(
         encoded, [_library.utf8_of(fact) for fact in facts], ends, number
     )
     if status == _library.FAULTY_FACT:
-        target = bisect_right(ends, fault.item)
-        first = [0, *ends][target]
-        raise fact_error(target, fault.item - first, facts[fault.item], fault)
+        place = bisect_right(ends, fault.item)
+        first = [0, *ends][place]
+        raise fact_error(place, fault.item - first, facts[fault.item], fault)
     if status == _library.FAULTY:
         raise parse_error(texts[fault.item], encoded[fault.item], fault)
     return [values[row * len(ends):(row + 1) * len(ends)] for row in range(len(texts))]

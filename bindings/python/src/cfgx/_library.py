@@ -170,10 +170,11 @@ def compiled(text: bytes) -> Union[Fault, Tuple[Any, List[Described]]]:
     step_count, count, fault = c_size_t(), c_size_t(), Fault()
 
     def call() -> int:
-        return LIBRARY.cfgx_compile(
+        status: int = LIBRARY.cfgx_compile(
             text, len(text), steps, len(steps), step_count, predicates, len(predicates), count,
             fault,
         )
+        return status
 
     status = call()
     if step_count.value > ROOM or count.value > ROOM:

@@ -1,7 +1,9 @@
 """Functions that make predicates: one for each kind, with the name of its key if it has one."""
-from typing import Any, Callable
+from typing import Callable, TypeVar
 
 from ._expression import KEYS, Kind, Predicate
+
+Make = TypeVar("Make", bound=Callable[..., Predicate])
 
 
 def flag(key: str) -> Predicate:
@@ -41,7 +43,7 @@ def valued(kind: Kind) -> Callable[[str], Predicate]:
     return named(make, kind, f"{returns} Raises `ValueError` if no text asks it.")
 
 
-def named(make: Any, kind: Kind, documentation: str) -> Any:
+def named(make: Make, kind: Kind, documentation: str) -> Make:
     """Returns a function with the name of the key of a kind."""
     make.__name__ = make.__qualname__ = KEYS[kind]
     make.__doc__ = documentation
