@@ -1,6 +1,6 @@
 """The values of conditions, beside what Cargo builds."""
 import itertools
-import unittest
+import unittest.mock
 
 from . import needs
 from .made import Folder, entry
@@ -121,6 +121,22 @@ class Conditions(unittest.TestCase):
         self.assertEqual(found.on, (None,))
         self.assertIsNone(found.unknown[0].if_yes)
         self.assertEqual(len(found.unknown[0].flags), 32)
+
+    def test_too_many_platforms_to_try(self):
+        # No answers make it true, and the last flags show it. Each platform has other facts.
+        pairs = [*((f"a{n}", f"b{n}") for n in range(9)), ("p", "q"), ("q", "r"), ("p", "r")]
+        differ = [f"any(all({a}, not({b})), all(not({a}), {b}))" for a, b in pairs]
+        systems = [f'target_os = "{n}"' for n in range(40)]
+        condition = f"cfg(all({', '.join(differ)}, any(x, not(x), {', '.join(systems)})))"
+        platforms = [platform_with(system.replace(" ", "")) for system in systems]
+        whole = _conditions.Search._value
+        with unittest.mock.patch.object(_conditions.Search, "_value", autospec=True,
+                                        side_effect=whole) as value:
+            found = _conditions.values_of([condition], platforms)[condition]
+        self.assertEqual(found.on, (None,) * len(platforms))
+        self.assertEqual({reason.if_yes for reason in found.unknown.values()}, {None})
+        least, most = _conditions.MOST_IN_ALL, _conditions.MOST_IN_ALL + 40 * len(platforms)
+        self.assertTrue(least <= value.call_count <= most, value.call_count)
 
     def test_triples(self):
         platforms = [_platforms.Platform(one, one, False, frozenset(), True)

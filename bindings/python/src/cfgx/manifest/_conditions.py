@@ -19,8 +19,9 @@ from ._platforms import Platform
 # A word of a condition as Cargo prints it, with its value. What a function begins is no predicate.
 WORD = re.compile(rf'{KEY}(?: = ("[^"]*"))?(\()?')
 CONDITION = re.compile(r"cfg\((.*)\)", re.DOTALL)
-# How many times a condition is evaluated to find answers for one that is unknown.
-MOST_TRIED = 4096
+# How many times a condition that is unknown is evaluated to find answers: with the same facts, and
+# in all. A condition of a hostile manifest may need more times than there is time for.
+MOST_TRIED, MOST_IN_ALL = 4096, 32768
 
 
 @dataclasses.dataclass(frozen=True)
@@ -168,6 +169,7 @@ class Search:
         self._expression = expression
         self._texts = texts
         self._asked = texts.asked_by(expression)
+        self._left = MOST_IN_ALL
         self._known: Dict[Tuple[Optional[bool], ...], Tuple[Optional[bool], Optional[Unknown]]] = {}
 
     def decided(self, platform: Platform) -> Tuple[Optional[bool], Optional[Unknown]]:
@@ -187,9 +189,10 @@ class Search:
         flags = list(dict.fromkeys(text for text, answer in both if answer is None))
         examples: Dict[bool, Given] = {}
         waiting: List[Given] = [{}]
-        for _ in range(MOST_TRIED):
+        for _ in range(min(MOST_TRIED, self._left)):
             if not waiting or len(examples) == 2:
                 break
+            self._left -= 1
             given = waiting.pop()
             value = self._value(answers, given)
             if value is None:
