@@ -355,7 +355,7 @@ class Project(unittest.TestCase):
             version, = re.findall(r"\bPython (\S+) or later, and calls", page.read())
         self.assertEqual(least, f">={version}")
         with open(os.path.join(HERE, "..", "README.md"), encoding="utf-8") as page:
-            self.assertIn(f"needs Python {version},", page.read())
+            self.assertIn(f"needs Python {version} or later,", page.read())
 
     def test_exported_names(self):
         public = {
