@@ -79,8 +79,7 @@ def report(
     - `flags` are set, as `rustc --cfg` takes them. `has_other_flags` is whether others may be.
     - `rustflags` are the arguments of rustc in `RUSTFLAGS`, divided.
     - `asks_rustc` lets `$RUSTC`, or the `rustc` on the path, say the facts.
-    - `host` is the triple of the host. Without one it is what `cargo -vV` names, or `rustc -vV`
-      with `asks_rustc`.
+    - `host` is a triple. Without one, `cargo -vV` names it, or `rustc -vV` with `asks_rustc`.
     - `environment` has the variables that Cargo reads, if not those of the process.
 
     Raises a `ManifestError`.
