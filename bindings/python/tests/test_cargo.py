@@ -230,6 +230,11 @@ class Started(Folder):
                 self.assertRaisesRegex(manifest.CargoError, "the current folder cannot be read"):
             manifest.report()
 
+    def test_texts_that_are_no_lists(self):
+        for name in ("targets", "packages", "kinds", "flags", "rustflags"):
+            with self.assertRaisesRegex(TypeError, "'a' is a text, and no list of texts"):
+                manifest.report(self.folder, **{name: "a"})
+
     def test_names_of_kinds(self):
         with self.assertRaises(manifest.RequestError):
             manifest.report(self.folder, kinds=["normal", "test"])

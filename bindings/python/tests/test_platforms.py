@@ -127,10 +127,20 @@ class Platforms(unittest.TestCase):
         for targets, wanted in rows:
             self.assertEqual([one.name for one in platforms_of(targets)], ["host", *wanted])
 
+    def test_the_name_of_the_host_is_no_target(self):
+        for options in ({"targets": ["host"]}, {"facts": {"host": ["unix"]}}):
+            with self.assertRaises(manifest.RequestError) as caught:
+                platforms_of(**options)
+            self.assertEqual(str(caught.exception),
+                             "host is no target: host-tuple is the host as a target")
+
     def test_facts_of_a_caller(self):
         platforms = platforms_of([WINDOWS], {"t": ["unix\r", "", ' a = "b"']})
         self.assertEqual([one.name for one in platforms], ["host", WINDOWS, "t"])
         self.assertEqual(platforms[2].facts, {"unix", 'a="b"'})
+        for lines in ("unix\r\n\na", iter(["unix", "a"])):
+            host, target = platforms_of([], {"t": lines}, "t")
+            self.assertEqual((host.facts, target.facts), ({"unix", "a"}, {"unix", "a"}))
 
     def test_facts_of_a_caller_replace_those_of_the_source(self):
         _, target = platforms_of([WINDOWS], {WINDOWS: ["a"]})

@@ -163,13 +163,15 @@ def platforms_of(
     """Returns the host, the targets with these names, and those with these facts. No flag reaches
     the host if there is a target. Without a triple, the host is that of the source."""
     host = source.host() if host is None else host
+    if HOST in [*targets, *facts]:
+        raise RequestError(f"{HOST} is no target: {HOST_TUPLE} is the host as a target")
     named = [triple for name in targets for triple in triples_of(source, name, host)]
     texts, is_alone = flags.texts(), not named and not facts
-    on_host = facts_in(lines_on_host(source, host, facts, is_alone), host)
+    read = {triple: lines_in(lines) for triple, lines in facts.items()}
+    on_host = facts_in(lines_on_host(source, host, read, is_alone), host)
     if is_alone:
         return [platform(HOST, host, on_host | texts, flags.has_others)]
     platforms = [platform(HOST, host, on_host, False)]
-    read = dict(facts)
     for triple in dict.fromkeys([*named, *read]):
         lines = read[triple] if triple in read else source.lines(triple, True)
         platforms.append(
@@ -178,8 +180,13 @@ def platforms_of(
     return platforms
 
 
+def lines_in(lines: Iterable[str]) -> List[str]:
+    """Returns the lines of a text, or those that are listed."""
+    return lines.split("\n") if isinstance(lines, str) else list(lines)
+
+
 def lines_on_host(
-    source: Source, host: str, facts: Mapping[str, Iterable[str]], is_with_flags: bool
+    source: Source, host: str, facts: Mapping[str, List[str]], is_with_flags: bool
 ) -> Iterable[str]:
     """Returns the facts of the host. Those of a caller may have flags, which do not reach the host
     beside a target. So they are taken only if the source does not have the host."""

@@ -75,19 +75,18 @@ def report(
     - `packages` are names of packages of the workspace. `is_workspace` stands for all of them.
       Without both, it is the package of the manifest, or all if it has none.
     - `kinds` are those of the dependencies: `normal`, `dev` and `build`.
-    - `facts` are more targets: by triple, the lines that rustc prints.
+    - `facts` are more targets: by triple, the lines that rustc prints, or a text of them.
     - `flags` are set, as `rustc --cfg` takes them. `has_other_flags` is whether others may be.
     - `rustflags` are the arguments of rustc in `RUSTFLAGS`, divided.
     - `asks_rustc` lets `$RUSTC`, or the `rustc` on the path, say the facts.
     - `host` is a triple. Without one, `cargo -vV` names it, or `rustc -vV` with `asks_rustc`.
     - `environment` has the variables that Cargo reads, if not those of the process.
 
-    Raises a `ManifestError`.
+    Raises a `ManifestError`, or `TypeError` if a text stands for a list.
     """
+    expect_lists(targets, packages, kinds, flags, rustflags or ())
+    expect_kinds(kinds)
     variables = os.environ if environment is None else environment
-    unknown_kinds = [kind for kind in kinds if kind not in _cargo.KINDS]
-    if unknown_kinds:
-        raise RequestError(f"{unknown_kinds[0]} is no kind: one is normal, dev or build")
     known = Flags(tuple(flags), tuple(rustflags or ()), has_other_flags)
     source: _platforms.Source = (
         _platforms.Compiler(known, variables) if asks_rustc else _platforms.Table(known)
@@ -98,6 +97,20 @@ def report(
     platforms = _platforms.platforms_of(source, targets, facts or {}, known, host)
     rows = rows_of(workspace.packages, chosen, kinds, platforms)
     return Report(path, tuple(platforms), tuple(rows), tuple(notes_on(path, rustflags, variables)))
+
+
+def expect_lists(*lists: Sequence[str]) -> None:
+    """Raises `TypeError` for a text that stands for a list of texts."""
+    for one in lists:
+        if isinstance(one, str):
+            raise TypeError(f"{one!r} is a text, and no list of texts")
+
+
+def expect_kinds(kinds: Sequence[str]) -> None:
+    """Raises `RequestError` for a kind that no dependency has."""
+    for kind in kinds:
+        if kind not in _cargo.KINDS:
+            raise RequestError(f"{kind} is no kind: one is normal, dev or build")
 
 
 def rows_of(
