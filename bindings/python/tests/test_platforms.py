@@ -204,6 +204,8 @@ class Sources(Folder):
             found, lines = _platforms.read_facts(path)
             self.assertEqual(found, triple or name)
             self.assertEqual(lines, [*WHOLE.splitlines(), "unix", 'a="b"', ""])
+        path = self.write("t.cfg", f"\ufeff{WHOLE}")
+        self.assertEqual(_platforms.read_facts(path)[1], [*WHOLE.splitlines(), ""])
 
     def test_files_that_cannot_be_read(self):
         path = os.path.join(self.folder, "none.cfg")

@@ -143,7 +143,8 @@ def read_facts(path: str) -> Tuple[str, List[str]]:
     name = os.path.basename(path)
     stem, end = os.path.splitext(name)
     try:
-        with open(path, encoding="utf-8") as file:
+        # A file of another system may begin with a mark that says it is UTF-8.
+        with open(path, encoding="utf-8-sig") as file:
             lines = file.read().split("\n")
     except UnicodeDecodeError as error:
         raise FactsError(f"{path} is not UTF-8: {error}") from error
