@@ -40,7 +40,7 @@ ACCEPTED = [
     ('target_has_atomic = "8"', True), ('target_has_atomic = "+8"', False),
     ('not(target_has_atomic = "08")', True), ('target_endian = "little"', True),
     ('target_feature = "sse2"', True), ('target_feature = "neon"', False),
-    ('target_feature = "crt-static"', False),
+    ('target_feature = "crt-static"', False), ('any(target_env = "musl", windows)', False),
     ("debug_assertions", True), ("test", False), ("proc_macro", False), ('feature = "x"', False),
     ('panic = "unwind"', True), ('target_abi = ""', True), ('feature = "é, all(x)"', False),
     ("any(loom, not(loom))", True), ("all(loom, r#loom, not(loom))", False),
