@@ -166,13 +166,13 @@ fn ensure_version() {
     );
 }
 
-/// Returns the fault of a text or a fact if the status says that there is one. Without memory, ends
-/// the process as collections do. The call does not say how many bytes it asked for, so `size` is
-/// the number of those that it was passed.
-fn result_of(status: u32, fault: Fault, size: usize) -> Result<(), Fault> {
+/// Returns the fault that a call tells that has this status, which is not success. Without memory,
+/// ends the process as collections do. The call does not say how many bytes it asked for, so `size`
+/// is the number of those that it was passed.
+#[cold]
+fn fault_of(status: u32, fault: Fault, size: usize) -> Fault {
     match status {
-        STATUS_DONE => Ok(()),
-        STATUS_FAULTY | STATUS_FAULTY_FACT => Err(fault),
+        STATUS_FAULTY | STATUS_FAULTY_FACT => fault,
         STATUS_OUT_OF_MEMORY => {
             handle_alloc_error(Layout::array::<u8>(size).unwrap_or(Layout::new::<u8>()))
         }
@@ -180,27 +180,41 @@ fn result_of(status: u32, fault: Fault, size: usize) -> Result<(), Fault> {
     }
 }
 
+/// The number of steps for which a text takes no memory here. Most conditions have no more.
+const FEW_STEPS: usize = 128;
+
 /// Passes the steps and the predicates of a text to `read`, and returns what it returns. Returns
 /// the fault of the text if it is no condition.
+#[inline]
 pub(crate) fn compile<R>(
     text: &str,
     read: impl FnOnce(&[Step], &[Predicate]) -> R,
 ) -> Result<R, Fault> {
     ensure_version();
-    // Most conditions have no more of both, and take no memory here.
-    let mut steps = [const { MaybeUninit::uninit() }; 128];
-    let mut predicates = [const { MaybeUninit::uninit() }; 128];
-    compile_into(text, &mut steps, &mut predicates, read)
+    let mut few_steps = [const { MaybeUninit::uninit() }; FEW_STEPS];
+    let mut few_predicates = [const { MaybeUninit::uninit() }; FEW_STEPS];
+    let (mut many_steps, mut many_predicates) = (Vec::new(), Vec::new());
+    let room = most_steps(text);
+    let (steps, predicates) = if room <= FEW_STEPS {
+        (&mut few_steps[..], &mut few_predicates[..])
+    } else {
+        many_steps.reserve_exact(room);
+        many_predicates.reserve_exact(room);
+        let steps = many_steps.spare_capacity_mut();
+        (steps, many_predicates.spare_capacity_mut())
+    };
+    let (steps, predicates) = compile_into(text, steps, predicates)?;
+    Ok(read(steps, predicates))
 }
 
-/// Does what `compile` does. If one of the buffers has too little room, calls once more with what
-/// is needed.
-fn compile_into<R>(
+/// Returns the steps and the predicates of a text, or its fault if it is no condition. Panics if
+/// one of the buffers has too little room.
+#[inline]
+fn compile_into<'a>(
     text: &str,
-    steps: &mut [MaybeUninit<Step>],
-    predicates: &mut [MaybeUninit<Predicate>],
-    read: impl FnOnce(&[Step], &[Predicate]) -> R,
-) -> Result<R, Fault> {
+    steps: &'a mut [MaybeUninit<Step>],
+    predicates: &'a mut [MaybeUninit<Predicate>],
+) -> Result<(&'a [Step], &'a [Predicate]), Fault> {
     let (mut step_count, mut predicate_count, mut fault) = (0, 0, Fault::default());
     // SAFETY: the slices, the counts and the fault are as the head of this module says.
     let status = unsafe {
@@ -216,15 +230,34 @@ fn compile_into<R>(
             &mut fault,
         )
     };
-    result_of(status, fault, text.len())?;
-    if step_count <= steps.len() && predicate_count <= predicates.len() {
-        let (steps, predicates) = (&steps[..step_count], &predicates[..predicate_count]);
-        // SAFETY: both buffers had the room, so the call filled this part of each.
-        return Ok(unsafe { read(filled(steps), filled(predicates)) });
+    if status != STATUS_DONE {
+        return Err(fault_of(status, fault, text.len()));
     }
-    let mut steps = Box::new_uninit_slice(step_count);
-    let mut predicates = Box::new_uninit_slice(predicate_count);
-    compile_into(text, &mut steps, &mut predicates, read)
+    let (steps, predicates) = (&steps[..step_count], &predicates[..predicate_count]);
+    // SAFETY: both buffers had the room, so the call filled this part of each.
+    Ok(unsafe { (filled(steps), filled(predicates)) })
+}
+
+/// Returns a number of steps that a condition with this text does not exceed. It has a step for
+/// each predicate, literal and function, and each of these has a word. One of them is the whole
+/// condition, and each other one stands behind a comma or an opening parenthesis.
+#[inline]
+fn most_steps(text: &str) -> usize {
+    if text.len() < 2 * FEW_STEPS || marks_in(text) < FEW_STEPS {
+        return FEW_STEPS;
+    }
+    // What stands in values does not count. They have no escapes, so every second piece is one.
+    let pieces = text.split('"').step_by(2);
+    1 + pieces.map(marks_in).sum::<usize>()
+}
+
+/// Returns the number of commas and opening parentheses in a text.
+fn marks_in(text: &str) -> usize {
+    let marks_of = |byte: &u8| u8::from(matches!(byte, b',' | b'('));
+    // The sum over a chunk fits in a byte, so the compiler can add many at once.
+    let chunks = text.as_bytes().chunks(255);
+    let sums = chunks.map(|chunk| chunk.iter().map(marks_of).sum::<u8>());
+    sums.map(usize::from).sum()
 }
 
 /// Returns the items of a buffer.
@@ -271,7 +304,10 @@ pub(crate) fn decide(text: &str, answers: &[Option<bool>]) -> (Option<bool>, Vec
             &mut fault,
         )
     };
-    result_of(status, fault, text.len()).expect("the text is a condition");
+    if status != STATUS_DONE {
+        let fault = fault_of(status, fault, text.len());
+        unreachable!("the text is a condition: {fault:?}");
+    }
     fillings.truncate(needed);
     let fillings = fillings.into_iter().map(|byte| byte != 0).collect();
     (value_of(value), fillings)
@@ -309,7 +345,9 @@ pub(crate) fn audit(
             &mut fault,
         )
     };
-    result_of(status, fault, facts.bytes.len())?;
+    if status != STATUS_DONE {
+        return Err(fault_of(status, fault, facts.bytes.len()));
+    }
     Ok(values.into_iter().map(value_of).collect())
 }
 
@@ -336,7 +374,7 @@ fn tokens_into(text: &str, mut tokens: Vec<Token>) -> Tokens {
             &mut fault,
         )
     };
-    let fault = result_of(status, fault, text.len()).err();
+    let fault = (status != STATUS_DONE).then(|| fault_of(status, fault, text.len()));
     if needed > tokens.capacity() {
         return tokens_into(text, Vec::with_capacity(needed));
     }

@@ -28,7 +28,20 @@ parsed true
 cfgx_compile 128 128
 parsed true
 cfgx_compile 128 128
-cfgx_compile 129 0
+parsed true
+cfgx_compile 129 129
+parsed true
+cfgx_compile 128 128
+parsed true
+cfgx_compile 129 129
+parsed true
+cfgx_compile 1001 1001
+parsed true
+cfgx_compile 100001 100001
+parsed true
+cfgx_compile 128 128
+parsed true
+cfgx_compile 2001 2001
 parsed true
 cfgx_audit
 cfgx_compile 128 128

@@ -5,6 +5,21 @@ use cfg_expr::expr::lexer::Lexer;
 use cfg_expr::targets::TargetInfo;
 use cfg_expr::{Expression, Facts, audit};
 
+/// Parts of texts, and how often they stand in a row.
+const PARTS: &[(&str, usize)] = &[
+    ("!", 1),
+    (" ", 100_000),
+    ("+", 128),
+    ("+,", 127),
+    ("+,", 128),
+    ("+(", 127),
+    ("+(", 128),
+    (",", 1_000),
+    ("+,", 100_000),
+    ("\",(\"", 100_000),
+    ("\",(\",(", 1_000),
+];
+
 fn main() {
     let nothing = Expression::parse("").unwrap();
     println!("decided {:?}", nothing.decide(|_| None));
@@ -14,9 +29,10 @@ fn main() {
         let (tokens, faults): (Vec<_>, Vec<_>) = Lexer::new(&text).partition(|one| one.is_ok());
         println!("lexed {} and {}", tokens.len(), faults.len());
     }
-    // A fault, a long text, and as many steps as there is room for at first, and one more
-    for (sign, count) in [("!", 1), (" ", 100_000), ("+", 128), ("+", 129)] {
-        let parsed = Expression::parse(&sign.repeat(count));
+    // A fault, a long text, and as many steps as take no memory, and one more. What stands between
+    // quotes is no step.
+    for (part, count) in PARTS {
+        let parsed = Expression::parse(&part.repeat(*count));
         println!("parsed {}", parsed.is_ok_and(|one| one.eval(|_| false)));
     }
     println!("read {}", TargetInfo::from_rustc_cfg("", "!").is_ok());
