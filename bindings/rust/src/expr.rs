@@ -9,7 +9,7 @@ mod stack;
 use crate::error::ParseError;
 use crate::ffi;
 pub use logic::Logic;
-use node::{Node, nodes_of};
+use node::{Node, Nodes};
 pub use predicate::{Predicate, TargetMatcher, TargetPredicate};
 use stack::Stack;
 use std::fmt;
@@ -39,8 +39,8 @@ use std::str::FromStr;
 #[derive(Clone)]
 pub struct Expression {
     /// The text, also with an outer `cfg( )`
-    text: String,
-    nodes: Vec<Node>,
+    text: Box<str>,
+    nodes: Nodes,
 }
 
 /// A function of a condition, with the number of its members.
@@ -103,12 +103,14 @@ impl Expression {
     /// assert!(Expression::parse("all(unix").is_err());
     /// ```
     pub fn parse(text: &str) -> Result<Self, ParseError> {
-        let nodes = ffi::compile(text, |steps, asked| nodes_of(text, steps, asked))
-            .map_err(|fault| ParseError::new(text, &fault))?;
-        Ok(Expression {
-            text: text.to_string(),
-            nodes,
-        })
+        let mut nodes = Nodes::new();
+        match ffi::compile(text, |steps, asked| nodes.fill(text, steps, asked)) {
+            Ok(()) => Ok(Expression {
+                text: text.into(),
+                nodes,
+            }),
+            Err(fault) => Err(ParseError::new(text, &fault)),
+        }
     }
 
     /// Returns the text without an outer `cfg( )`.
@@ -142,18 +144,8 @@ impl Expression {
     /// );
     /// ```
     pub fn predicates(&self) -> impl Iterator<Item = Predicate<'_>> {
-        self.answers(Predicate::clone)
-    }
-
-    /// Returns what `ask` answers to the predicates, in the order in which they are asked.
-    fn answers<'a, T>(
-        &'a self,
-        mut ask: impl FnMut(&Predicate<'a>) -> T,
-    ) -> impl Iterator<Item = T> {
-        self.nodes.iter().filter_map(move |node| match node {
-            Node::Ask(question) => Some(question.answer(&self.text, &mut ask)),
-            _ => None,
-        })
+        let nodes = self.nodes.as_slice().iter();
+        nodes.filter_map(|node| node.asked(&self.text))
     }
 
     /// Evaluates the condition over what `eval_predicate` answers to its predicates.
@@ -180,14 +172,16 @@ impl Expression {
         T: Logic,
     {
         let mut stack = Stack::<T>::new();
-        for node in &self.nodes {
-            let value = match node {
-                Node::Ask(question) => question.answer(&self.text, &mut eval_predicate),
-                Node::Literal(true) => T::top(),
-                Node::Literal(false) => T::bottom(),
+        for node in self.nodes.as_slice() {
+            let value = match *node {
+                Node::Known(predicate) => eval_predicate(predicate),
+                Node::Borrowed(kind, span) => eval_predicate(&kind.predicate(span, &self.text)),
+                Node::Unnamed(field, span) => eval_predicate(&field.predicate(span, &self.text)),
+                Node::True => T::top(),
+                Node::False => T::bottom(),
                 Node::Not => stack.pop().not(),
-                Node::All(count) => (0..*count).fold(T::top(), |value, _| value.and(stack.pop())),
-                Node::Any(count) => (0..*count).fold(T::bottom(), |value, _| value.or(stack.pop())),
+                Node::All(count) => (0..count).fold(T::top(), |value, _| value.and(stack.pop())),
+                Node::Any(count) => (0..count).fold(T::bottom(), |value, _| value.or(stack.pop())),
             };
             stack.push(value);
         }
@@ -213,11 +207,12 @@ impl Expression {
     /// assert_eq!(decision, Decision::Known(true));
     /// ```
     #[must_use]
-    pub fn decide<EP>(&self, eval_predicate: EP) -> Decision
+    pub fn decide<EP>(&self, mut eval_predicate: EP) -> Decision
     where
         EP: FnMut(&Predicate<'_>) -> Option<bool>,
     {
-        let answers: Vec<Option<bool>> = self.answers(eval_predicate).collect();
+        let answers = self.predicates().map(|asked| eval_predicate(&asked));
+        let answers: Vec<Option<bool>> = answers.collect();
         match ffi::decide(self.original(), &answers) {
             (Some(value), _) => Decision::Known(value),
             (None, mut if_true) => {

@@ -35,9 +35,8 @@ pub(crate) struct Fault {
     pub(crate) terms: u32,
 }
 
-/// A predicate of a text: `struct cfgx_predicate`. The crate does not read its whole span.
+/// A predicate of a text: `struct cfgx_predicate`.
 #[repr(C)]
-#[allow(dead_code)]
 pub(crate) struct Predicate {
     pub(crate) kind: u32,
     pub(crate) number: u32,

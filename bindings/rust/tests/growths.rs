@@ -69,6 +69,9 @@ const CONDITION: &str = "cfg(all(unix, any(key = \"value\", not(target_os = \"no
 /// The value of its last predicate, of which a predicate has a copy.
 const COPIED: &str = "not named";
 
+/// A condition whose values on the target are all named, so no predicate has a copy of one.
+const NAMED: &str = "all(unix, feature = \"x\", target_os = \"linux\", not(loom))";
+
 /// A text that is no condition.
 const FAULTY: &str = "cfg(all(unix, any(key = \"value\", not(a, b))))";
 
@@ -86,6 +89,7 @@ const PASSED_OVER: &str = "target_something_that_no_condition_can_ask_for=\"x\""
 fn call(name: &str, granted: usize) {
     let expression = Expression::parse(CONDITION).unwrap();
     let conditions = [expression];
+    let named = Expression::parse(NAMED).unwrap();
     let long = format!("all({})", "a,".repeat(MEMBERS));
     let targets = [Facts::new(["unix", PASSED_OVER, "?a"]), Facts::default()];
     let no_targets = [Facts::new(["unix"]), Facts::new(["test", "all( "])];
@@ -103,7 +107,10 @@ fn call(name: &str, granted: usize) {
         "audit over a faulty fact" => drop(audit(&conditions, &no_targets)),
         "read a line" => drop(TargetInfo::from_rustc_cfg("mine", PASSED_OVER)),
         "eval" => assert_eq!(conditions[0].eval(|_| None::<bool>), None),
+        "eval of named values" => assert_eq!(named.eval(|_| None::<bool>), None),
         "predicates" => assert_eq!(conditions[0].predicates().filter(is_key).count(), 1),
+        "predicates of named values" => assert_eq!(named.predicates().filter(is_key).count(), 0),
+        "clone" => drop(conditions[0].clone()),
         other => panic!("{other}"),
     }
     // The number wraps around if there is one growth more.
@@ -172,8 +179,11 @@ const CALLS: &[(&str, Option<usize>)] = &[
     ("audit_with", Some(PASSED_OVER.len() + 6)),
     ("audit over a faulty fact", Some(13)),
     ("read a line", Some(PASSED_OVER.len())),
-    ("eval", None),
+    ("eval", Some(COPIED.len())),
+    ("eval of named values", None),
     ("predicates", Some(COPIED.len())),
+    ("predicates of named values", None),
+    ("clone", Some(CONDITION.len())),
 ];
 
 #[test]

@@ -10,11 +10,17 @@ macro_rules! named_values {
                 pub const $name: $field = $field::new_const($text);
             )*
 
-            /// Returns the field with this text, which is copied unless a named value has it.
-            pub(crate) fn copied(text: &str) -> $field {
+            /// Returns the predicate that asks for the named value with this text.
+            pub(crate) fn predicate_of(
+                text: &[u8],
+            ) -> Option<&'static $crate::expr::Predicate<'static>> {
+                use $crate::expr::{Predicate, TargetPredicate};
+                $(const $name: &[u8] = $text.as_bytes();)*
                 match text {
-                    $($text => $field::$name,)*
-                    _ => $field::new(text.to_string()),
+                    $($name => Some(const {
+                        &Predicate::Target(TargetPredicate::$field($field::$name))
+                    }),)*
+                    _ => None,
                 }
             }
         }
@@ -101,8 +107,8 @@ macro_rules! list {
 
 #[cfg(test)]
 mod tests {
+    use crate::expr::{Predicate, TargetPredicate};
     use crate::targets::{Abi, Arch, Env, Family, Os, Panic, Vendor};
-    use std::borrow::Cow;
     use std::fs;
     use std::path::Path;
 
@@ -132,37 +138,46 @@ mod tests {
     }
 
     /// Panics unless each value of a file of `crates/cfgx_fields`, and each one that a key has in
-    /// the table of targets, is a named value here, which is borrowed.
-    fn check(file: &str, key: &str, copied: impl Fn(&str) -> Cow<'static, str>) {
+    /// the table of targets, is a named value here, whose predicate is the one that is expected.
+    fn check(
+        file: &str,
+        key: &str,
+        found: impl Fn(&[u8]) -> Option<&'static Predicate<'static>>,
+        expected: impl Fn(String) -> TargetPredicate,
+    ) {
         for values in [values_of_the_engine(file), values_of_the_table(key)] {
             assert!(values.len() > 1, "{file} {key}");
             for text in values {
-                let found = copied(&text);
-                assert!(
-                    matches!(found, Cow::Borrowed(name) if name == text),
-                    "{text}"
-                );
+                let predicate = found(text.as_bytes());
+                assert_eq!(predicate, Some(&Predicate::Target(expected(text))));
             }
         }
     }
 
-    #[test]
-    fn each_value_of_a_target_is_named_here() {
-        check("abis.rt", "target_abi", |text| Abi::copied(text).0);
-        check("architectures.rt", "target_arch", |text| {
-            Arch::copied(text).0
-        });
-        check("environments.rt", "target_env", |text| Env::copied(text).0);
-        check("families.rt", "target_family", |text| {
-            Family::copied(text).0
-        });
-        check("systems.rt", "target_os", |text| Os::copied(text).0);
-        check("panics.rt", "panic", |text| Panic::copied(text).0);
-        check("vendors.rt", "target_vendor", |text| Vendor::copied(text).0);
+    /// Does what `check` does, for a field of targets.
+    macro_rules! check_field {
+        ($field:ident, $file:literal, $key:literal) => {
+            check($file, $key, $field::predicate_of, |text| {
+                TargetPredicate::$field($field::new(text))
+            })
+        };
     }
 
     #[test]
-    fn every_other_text_is_copied() {
-        assert!(matches!(Os::copied("x").0, Cow::Owned(text) if text == "x"));
+    fn each_value_of_a_target_is_named_here() {
+        check_field!(Abi, "abis.rt", "target_abi");
+        check_field!(Arch, "architectures.rt", "target_arch");
+        check_field!(Env, "environments.rt", "target_env");
+        check_field!(Family, "families.rt", "target_family");
+        check_field!(Os, "systems.rt", "target_os");
+        check_field!(Panic, "panics.rt", "panic");
+        check_field!(Vendor, "vendors.rt", "target_vendor");
+    }
+
+    #[test]
+    fn no_other_text_is_named() {
+        for text in ["", "x", "Linux", "linu", "linux "] {
+            assert_eq!(Os::predicate_of(text.as_bytes()), None, "{text}");
+        }
     }
 }

@@ -91,6 +91,38 @@ fn texts_of_other_keys() {
     }
 }
 
+/// White space, by the property of Unicode, and none.
+const SPACES: &[&str] = &[
+    "",
+    " ",
+    "\n\t",
+    "\u{b}\u{c}",
+    "\r",
+    "\u{85}",
+    "\u{a0}",
+    "\u{1680}",
+    "\u{2003}",
+    "\u{2028}",
+    "\u{2029}",
+    "\u{202f}",
+    "\u{205f}",
+    "\u{3000}",
+];
+
+#[test]
+fn white_space_around_the_sign_of_another_key() {
+    let pairs = SPACES
+        .iter()
+        .flat_map(|before| SPACES.iter().map(move |behind| (before, behind)));
+    for (before, behind) in pairs {
+        let expected = Predicate::KeyValue {
+            key: "key_1",
+            val: " = ",
+        };
+        check(&format!("key_1{before}={behind}\" = \""), &expected);
+    }
+}
+
 #[test]
 fn texts_of_target_features() {
     for name in &TEXTS[1..] {
