@@ -1,16 +1,23 @@
-//! What `bench/measure` counts the instructions of, over the Rust crate.
+//! What `bench/measure` counts and times, over the Rust crate.
 //!
-//! usage: `bench each` or `bench pick`, with lines on standard input
+//! usage: `bench each`, `bench pick` or `bench time`, with lines on standard input; or
+//! `bench memory value` or `bench memory members`
 //!
-//! `each` parses the condition on each line, evaluates it and drops it. `pick` does what
-//! `cfgx pick aarch64-apple-ios` does, with sections that the target decides.
+//! `each` makes each call with the condition on each line. `pick` does what
+//! `cfgx pick aarch64-apple-ios` does, with sections that the target decides. `time` prints how
+//! many nanoseconds each call takes for a line, at best. `memory` parses a long text, and prints how
+//! many megabytes of memory and of addresses the process took at most.
 
 use cfgx::targets::{TargetInfo, get_builtin_target_by_triple};
 use cfgx::{Expression, ParseError, Predicate};
-use std::env;
 use std::error::Error;
 use std::hint::black_box;
 use std::io::{self, Write, read_to_string};
+use std::time::Instant;
+use std::{env, fs};
+
+/// How often `time` makes each call with each line.
+const ROUNDS: usize = 1000;
 
 /// Parses a condition.
 #[inline(never)]
@@ -27,20 +34,108 @@ fn evaluate_one(expression: &Expression, target: &TargetInfo) -> bool {
     })
 }
 
+/// Evaluates a condition on a target. What is not on the target is unknown.
+#[inline(never)]
+fn weigh_one(expression: &Expression, target: &TargetInfo) -> Option<bool> {
+    expression.eval(|predicate| match predicate {
+        Predicate::Target(asked) => Some(asked.matches(target)),
+        _ => None,
+    })
+}
+
+/// Lists the predicates of a condition. Returns how many are on the target.
+#[inline(never)]
+fn list_one(expression: &Expression) -> usize {
+    let is_on_target = |predicate: &Predicate<'_>| matches!(predicate, Predicate::Target(_));
+    expression.predicates().filter(is_on_target).count()
+}
+
+/// Clones a condition.
+#[inline(never)]
+fn clone_one(expression: &Expression) -> Expression {
+    expression.clone()
+}
+
 /// Drops a condition.
 #[inline(never)]
 fn drop_one(expression: Expression) {
     drop(expression);
 }
 
-/// Parses the condition on each line, evaluates it and drops it. A faulty line is only parsed.
+/// Makes each call with the condition on each line. A faulty line is only parsed.
 fn measure_each(lines: &str, target: &TargetInfo) {
     for line in lines.lines() {
         if let Ok(expression) = parse_one(line) {
             black_box(evaluate_one(&expression, target));
+            black_box(weigh_one(&expression, target));
+            black_box(list_one(&expression));
+            drop(black_box(clone_one(&expression)));
             drop_one(expression);
         }
     }
+}
+
+/// Returns how many nanoseconds a call takes.
+fn time_of(call: impl FnOnce()) -> u128 {
+    let start = Instant::now();
+    call();
+    start.elapsed().as_nanos()
+}
+
+/// Returns how many nanoseconds calls of each kind take for all lines together: to parse, to
+/// evaluate over `bool` and over `Option<bool>`, to list predicates, to clone and to drop.
+fn times_of(lines: &[&str], target: &TargetInfo) -> [u128; 6] {
+    let mut parsed = Vec::with_capacity(lines.len());
+    let mut cloned = Vec::with_capacity(lines.len());
+    let parse = time_of(|| parsed.extend(lines.iter().flat_map(|line| parse_one(line))));
+    let time_each = |call: &dyn Fn(&Expression)| time_of(|| parsed.iter().for_each(call));
+    let evaluate = time_each(&|one| {
+        black_box(evaluate_one(one, target));
+    });
+    let weigh = time_each(&|one| {
+        black_box(weigh_one(one, target));
+    });
+    let list = time_each(&|one| {
+        black_box(list_one(one));
+    });
+    let clone = time_of(|| cloned.extend(parsed.iter().map(clone_one)));
+    let drop = time_of(|| drop(cloned));
+    [parse, evaluate, weigh, list, clone, drop]
+}
+
+/// Prints how many nanoseconds each call takes for a line, at best. No line may be faulty.
+fn print_times(lines: &str, target: &TargetInfo) {
+    let lines: Vec<&str> = lines.lines().collect();
+    let mut best = [u128::MAX; 6];
+    for _ in 0..ROUNDS {
+        let times = times_of(&lines, target);
+        best = std::array::from_fn(|place| best[place].min(times[place]));
+    }
+    for nanoseconds in best {
+        println!("{:.1}", nanoseconds as f64 / lines.len() as f64);
+    }
+}
+
+/// Parses a text that has `part` this many times, and prints how many megabytes of memory and of
+/// addresses the process took at most.
+fn print_memory(before: &str, part: &str, count: usize, after: &str) -> Result<(), Box<dyn Error>> {
+    let length = before.len() + part.len() * count + after.len();
+    let mut text = String::with_capacity(length);
+    text.push_str(before);
+    (0..count).for_each(|_| text.push_str(part));
+    text.push_str(after);
+    let expression = Expression::parse(&text)?;
+    let status = fs::read_to_string("/proc/self/status")?;
+    for name in ["VmHWM:", "VmPeak:"] {
+        let line = status.lines().find_map(|line| line.strip_prefix(name));
+        let kib: usize = line
+            .and_then(|line| line.split_whitespace().next())
+            .ok_or(name)?
+            .parse()?;
+        println!("{}", kib * 1024 / 1_000_000);
+    }
+    drop(expression);
+    Ok(())
 }
 
 /// Prints the name of each section, and whether its condition is true on the target.
@@ -64,11 +159,15 @@ fn pick(sections: &str, target: &TargetInfo) -> Result<(), Box<dyn Error>> {
 
 fn main() -> Result<(), Box<dyn Error>> {
     let target = get_builtin_target_by_triple("aarch64-apple-ios").ok_or("no such target")?;
-    let input = read_to_string(io::stdin())?;
-    match env::args().nth(1).as_deref() {
-        Some("each") => measure_each(&input, target),
-        Some("pick") => pick(&input, target)?,
-        _ => return Err("usage: bench each|pick".into()),
+    let input = || read_to_string(io::stdin());
+    let words: Vec<String> = env::args().skip(1).collect();
+    match words.iter().map(String::as_str).collect::<Vec<_>>()[..] {
+        ["each"] => measure_each(&input()?, target),
+        ["pick"] => pick(&input()?, target)?,
+        ["time"] => print_times(&input()?, target),
+        ["memory", "value"] => print_memory("feature = \"", "a", 16 << 20, "\"")?,
+        ["memory", "members"] => print_memory("any(", "a,", 8_000_000, ")")?,
+        _ => return Err("usage: bench each|pick|time, or bench memory value|members".into()),
     }
     Ok(())
 }
