@@ -55,7 +55,7 @@ AreSteps text steps = (one : HasOneTree text) × (steps ≡ steps_of one.tree)
 abbrev pub AreStepsAs : {T : Type 0} → (Step → T) → List ℕ → List T → Type 0
 AreStepsAs form text steps = (one : HasOneTree text) × (steps ≡ map form (steps_of one.tree))
 
--- the text's one tree has so many steps
+-- the text's one tree has `n` steps
 abbrev pub HasSteps : List ℕ → ℕ → Type 0
 HasSteps text n = (one : HasOneTree text) × (n ≡ length (steps_of one.tree))
 

@@ -11,8 +11,8 @@ ghost use Rattle.cfgx_c.specs.Ends.{AreEnds, parts};
 ghost use Rattle.cfgx_c.specs.Faults.{HasFactFault, fact_offset};
 ghost use Rattle.cfgx_c.specs.Status.{faulty_fact, not_utf8};
 ghost use Rattle.cfgx_c.specs.internal.Refusals.{FactStands, IsAbout, IsFirstFrom, IsThatOfFirst};
-ghost use Rattle.cfgx_c.specs.internal.Refusals.{RefusesFor, RefusesText, fact_refusal, text_refusal};
-ghost use Rattle.cfgx_c.specs.internal.Refusals.{views};
+ghost use Rattle.cfgx_c.specs.internal.Refusals.{RefusesFor, RefusesText, fact_refusal};
+ghost use Rattle.cfgx_c.specs.internal.Refusals.{text_refusal, views};
 
 use crate::fault::{CfgxFault, Refusal};
 use crate::status::{FAULTY, FAULTY_FACT, MISCOUNTED, NOT_UTF8, OUT_OF_MEMORY};

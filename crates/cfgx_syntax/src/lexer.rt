@@ -87,7 +87,7 @@ impl fmt::Display for Token<'_> {
     }
 }
 
-/// A token with its place in the stripped text.
+/// A token with its span in the stripped text.
 #[derive(Clone, Debug, Drop)]
 pub struct LexerToken<'a> {
     /// The token.
