@@ -30,8 +30,9 @@ fn compile(
     ensures err { IfErr result (RefusesText text.now) }
     ensures kept { OnErr result ((steps.new ≡ steps.old) × (predicates.new ≡ predicates.old)) }
 {
-    let text = read_text(text)?;
+    // The reader stands in front of what can fail, or its room would be cleared once more.
     let mut reader = ConditionReader::new(alloc);
+    let text = read_text(text)?;
     let condition = read_condition(&mut reader, text)?;
     let located = condition.located_predicates();
     let (step_count, count) = (condition.step_count(), located.left());

@@ -118,8 +118,9 @@ fn fill_predicates(
     ensures err { IfErr result (RefusesText text.now) }
     ensures kept { OnErr result (buffer.new ≡ buffer.old) }
 {
-    let text = read_text(text)?;
+    // The reader stands in front of what can fail, or its room would be cleared once more.
     let mut reader = ConditionReader::new(alloc);
+    let text = read_text(text)?;
     let condition = read_condition(&mut reader, text)?;
     let predicates = condition.located_predicates();
     let needed = predicates.left();

@@ -125,17 +125,16 @@ pub enum ExprNode {
     Literal(bool),
 }
 
-/// The node of a function that has begun and not ended.
+/// Room in a vector needs a default. Nothing reads it.
+// The longest variant, whose fields are all written: a vector of another one would be copied.
 impl Default for ExprNode {
-    ghost use Rattle.cfgx_parser.specs.nodes.Node.{begun};
-
-    fn default() -> Self
-        ensures { result ≡ begun }
-    {
-        ExprNode::Fn {
-            func: Func::Not,
-            len: 0,
-        }
+    fn default() -> Self {
+        let none = Span { start: 0, end: 0 };
+        ExprNode::Predicate(Located {
+            asked: InnerPredicate::Test,
+            key: none,
+            value: none,
+        })
     }
 }
 
@@ -206,6 +205,13 @@ impl<A: SmallAllocator> NodeWriter<A> {
         }
     }
 
+    /// Expects a text of `len` bytes, of which nothing is written.
+    pub(crate) fn expect(&mut self, len: usize)
+        ensures { written_of self.new ≡ written_of self.old }
+    {
+        self.first_capacity = capacity_for(len);
+    }
+
     /// Clears the writer for a text of `len` bytes, and keeps the memory.
     pub(crate) fn restart(&mut self, len: usize)
         ensures { written_of self.new ≡ nothing }
@@ -215,7 +221,7 @@ impl<A: SmallAllocator> NodeWriter<A> {
         self.places.clear();
         self.node_count = 0;
         self.waiting_count = 0;
-        self.first_capacity = capacity_for(len);
+        self.expect(len);
     }
 
     /// Whether the vectors should move to the heap: a node was written since the last restart, and
@@ -291,7 +297,10 @@ impl<A: SmallAllocator> NodeWriter<A> {
             (written_of self.new ≡ with_function (written_of self.old)) }
         ensures kept { KeepsNodes (written_of self.old) (written_of self.new) }
     {
-        let node = self.push_node(ExprNode::default())?;
+        let node = self.push_node(ExprNode::Fn {
+            func: Func::Not,
+            len: 0,
+        })?;
         let waiting = self.waiting_count;
         Ok(Mark { node, waiting })
     }

@@ -254,6 +254,13 @@ impl<'a, A: SmallAllocator> Parser<'a, A> {
         }
     }
 
+    /// Expects a text of `len` bytes. The parser has to be new.
+    pub fn expect(&mut self, len: usize)
+        ensures { state_of self.new ≡ state_of self.old }
+    {
+        self.writer.expect(len);
+    }
+
     /// Moves the vectors to the heap: inline storage is rewritten by every `clear`.
     #[cold]
     #[inline(never)]

@@ -1,11 +1,14 @@
 //! Borrowed conditions, and a reader that reads one condition after another.
 ghost use Rattle.std.specs.Prelude.{◌≡◌, ◌≤◌, length, map, IfOk, IsOk, List, OnErr, OnOk};
+ghost use Rattle.std.specs.Prelude.{false, true};
 ghost use Rattle.std.specs.Iterator.{AlwaysYields, IsFinite};
 ghost use Rattle.cfgx_syntax.specs.Stripping.{strip};
 ghost use Rattle.cfg_expr.specs.Given.{AreAnswersTo};
 ghost use Rattle.cfgx_grammar.specs.Answer.{Answers, HasOneTree};
 ghost use Rattle.cfg_expr.specs.Fold.{tree_fold};
+ghost use Rattle.cfgx_grammar.specs.parsing.State.{initial};
 ghost use Rattle.cfgx_parser.specs.nodes.Prefix.{node_at, prefix, places};
+ghost use Rattle.cfgx_parser.specs.parsing.Parser.{state_of};
 ghost use Rattle.cfg_expr.specs.Deciding.{AreFillings, Decides, IsExactOverAll, held};
 ghost use Rattle.cfg_expr.specs.Evaluation.{AsksInOrder, EvaluatesTo, MayEvaluate};
 ghost use Rattle.cfg_expr.specs.Evaluation.{IsByLaneOverAll, IsValueInLanes};
@@ -258,6 +261,9 @@ impl fmt::Debug for Condition<'_> {
 pub struct ConditionReader<'a, A: SmallAllocator = Global> {
     alloc: A,
     parser: Parser<'a, A>,
+    /// Whether the parser has to forget a text before it reads the next
+    has_read: bool,
+    ghost fresh: { (has_read ≡ false) → state_of parser ≡ initial },
 }
 
 impl<'a, A: SmallAllocator> ConditionReader<'a, A> {
@@ -266,7 +272,23 @@ impl<'a, A: SmallAllocator> ConditionReader<'a, A> {
         ConditionReader {
             alloc,
             parser: Parser::new(alloc, 0),
+            has_read: false,
         }
+    }
+
+    /// Makes the parser ready for a text of `len` bytes. A new one is not cleared, which would take
+    /// a tenth of what it takes to read a short text.
+    #[inline(always)]
+    fn begin(&mut self, len: usize) -> Result<(), AllocError>
+        ensures ready { state_of self.new.parser ≡ initial }
+        ensures has_read { self.new.has_read ≡ true }
+    {
+        if self.has_read {
+            return self.parser.restart(len);
+        }
+        self.has_read = true;
+        self.parser.expect(len);
+        Ok(())
     }
 
     /// Reads a text, which may stand in `cfg( )`, and returns its condition, which borrows the
@@ -282,7 +304,7 @@ impl<'a, A: SmallAllocator> ConditionReader<'a, A> {
     {
         let lexer = Lexer::new(self.alloc, text);
         let original = lexer.original();
-        self.parser.restart(original.len())?;
+        self.begin(original.len())?;
         self.parser.read_all(self.alloc, lexer)?;
         let parser = &self.parser;
         Ok(Condition {

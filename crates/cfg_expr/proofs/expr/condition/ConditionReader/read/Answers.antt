@@ -7,11 +7,11 @@ use Rattle.cfg_expr.proofs.expr.condition.ConditionReader.read.Goals as goal
 
 -- the parser starts at the text's start
 begins : (g : Over) (c : After-read_all g) → Begins {A = g.row.A.Denot} (strip c.args.text.now)
-    c.new-lexer.result c.restart.new.self
+    c.new-lexer.result c.begin.new.self.parser
 begins g c = search rules
 
-pub returns-in_err-restart : goal.returns-in_err-restart
-returns-in_err-restart g c = Answers-memory (strip c.args.text.now) c.new-lexer.ensures.one _
+pub returns-in_err-begin : goal.returns-in_err-begin
+returns-in_err-begin g c = Answers-memory (strip c.args.text.now) c.new-lexer.ensures.one _
     c.from_residual.result c.from_residual.ensures.1
 
 pub returns-in_err-read_all : goal.returns-in_err-read_all
