@@ -1,87 +1,105 @@
--- What the writer of steps has written after each node.
-use Rattle.std.specs.Prelude.{◌≡◌, ◌≤◌, ◌+◌, ◌++◌, ◌-◌, ℕ, Bool, false, true, List, [], ◌∷◌}
-use Rattle.std.specs.Prelude.{count_by}
-use Rattle.std.specs.Prelude.{drop, if◌then◌else◌, length, map, nat_le, reverse, take}
-use Rattle.cfgx_parser.specs.nodes.Shape.{Shape}
+-- What the writer of steps has still to write.
+use Rattle.std.specs.Prelude.{◌≡◌, ◌<◌, ◌≤◌, ◌+◌, ◌++◌, ◌-◌, ℕ, zero, suc, Bool, false, true, List}
+use Rattle.std.specs.Prelude.{[], ◌∷◌, count_by, drop, length, map, reverse, take}
+use Rattle.smallvec.specs.SmallVec.{HasRoomFor}
+use Rattle.cfgx_grammar.specs.Question.{Question}
+use Rattle.cfgx_grammar.specs.Tree.{Trees, is_function, is_leaf}
+use Rattle.cfgx_parser.specs.nodes.Prefix.{Node, prefix_each}
+use Rattle.cfgx_parser.specs.declared.function.Func.{Func}
 use Rattle.cfgx_parser.specs.declared.function.Func.TheVariants as func
-use Rattle.cfg_expr.specs.declared.expr.steps.Open.{Open}
+use Rattle.cfgx_parser.specs.declared.nodes.ExprNode.{ExprNode}
+use Rattle.cfgx_parser.specs.declared.nodes.ExprNode.TheVariants as node
+use Rattle.cfg_expr.specs.Steps.{steps_by}
 use Rattle.cfg_expr.specs.declared.expr.steps.Step.{Step}
 use Rattle.cfg_expr.specs.declared.expr.steps.Step.TheVariants.{Ask, Literal, Not, All, Any}
 use Rattle.cfg_expr.specs.declared.expr.steps.StepWriter.{StepWriter}
 
--- The functions that have not ended, the innermost one first; the steps of their own leaves; and
--- all steps in front of those, as they stand in the buffer.
-pub record Written (T : Type 0) : Type 0 where
-  pub begun : List Open
-  pub leaves : List Step
-  pub steps : List T
+-- What a node says of the steps: the step of a leaf, or a function with the number of its nodes.
+pub data Part : Type 0 where
+  leaf : Step → Part
+  function : Func → ℕ → Part
 
-abbrev pub nothing : {T : Type 0} → Written T
-nothing = record { begun = []; leaves = []; steps = [] }
+abbrev pub part : ExprNode → Part
+part (node.Fn func len) = Part.function func len
+part (node.Predicate inner) = Part.leaf Ask
+part (node.Literal truth) = Part.leaf (Literal truth)
 
-abbrev pub written_of : {A T : Type 0} → StepWriter A → List T → Written T
-written_of w buffer = record {
-  begun = reverse w.begun.items;
-  leaves = w.leaves.items;
-  steps = take w.written buffer;
-}
+-- the same of a node of a tree
+abbrev pub part_of : {X : Type 0} → Node X → Part
+part_of (Node.function func len) = Part.function func len
+part_of (Node.leaf x) = Part.leaf Ask
+part_of (Node.literal truth) = Part.leaf (Literal truth)
 
--- whether the node is a function
-abbrev pub is_function : Shape → Bool
-is_function (Shape.function func) = true
-is_function _ = false
+-- the parts of some trees, one tree after another
+abbrev pub parts_of : Trees Question → List Part
+parts_of trees = map part_of (prefix_each trees)
 
--- there is room for what these nodes write, on both stacks and in the buffer
-pub record HasRoom {A T : Type 0} (w : StepWriter A) (buffer : List T) (shapes : List Shape)
-    : Type 0 where
-  pub begun : length w.begun.items + count_by is_function shapes ≤ w.begun.capacity
-  pub leaves : length w.leaves.items + length shapes ≤ w.leaves.capacity
-  pub steps : w.written + length w.leaves.items + length w.begun.items + length shapes
-      ≤ length buffer
+abbrev pub begins_function : Part → Bool
+begins_function (Part.leaf step) = false
+begins_function (Part.function func len) = true
 
--- the stacks have the room that they had, and what was written stands in the buffer
-abbrev pub KeepsRoom : {A T : Type 0} → StepWriter A → StepWriter A → List T → Type 0
-KeepsRoom old new buffer = (new.begun.capacity ≡ old.begun.capacity)
-    × (new.leaves.capacity ≡ old.leaves.capacity) × (new.written ≤ length buffer)
+abbrev pub function_step : Func → Step
+function_step func.Not = Not
+function_step (func.All n) = All n
+function_step (func.Any n) = Any n
 
--- `form` is what a step becomes in the buffer
-module _ {T : Type 0} (form : Step → T) where
-  -- a member has ended, and with it each function of which it is the last one
-  abbrev pub ended : List Open → List Step → List T → Written T
-  ended [] leaves steps = record { begun = []; leaves = leaves; steps = steps }
-  ended (function ∷ begun) leaves steps = if nat_le function.members_left 1
-      then ended begun (take function.leaves leaves)
-      (steps ++ map form (drop function.leaves leaves) ++ form function.step ∷ [])
-      else record {
-        begun = record function { members_left = function.members_left - 1 } ∷ begun;
-        leaves = leaves;
-        steps = steps;
-      }
+-- the steps of those leaves behind the first `inner` parts that stand in no function
+abbrev pub own_leaves : ℕ → List Part → List Step
+own_leaves inner [] = []
+own_leaves (suc inner) (part ∷ parts) = own_leaves inner parts
+own_leaves zero (Part.leaf step ∷ parts) = step ∷ own_leaves zero parts
+own_leaves zero (Part.function func len ∷ parts) = own_leaves (len - 1) parts
 
-  -- a leaf is written
-  abbrev pub with_leaf : Step → Written T → Written T
-  with_leaf leaf w = ended w.begun (w.leaves ++ leaf ∷ []) w.steps
+-- A function stands at `place`, and the parts from `next` on begin with those of its members that
+-- are left. `steps` are those to write: of the member functions that are left, of all leaves among
+-- the members, of the function, and then the others.
+pub record Frame (parts : List Part) (next place : ℕ) (steps : List Step) : Type 0 where
+  pub func : Func
+  pub members : Trees Question
+  pub left : Trees Question
+  pub end : ℕ
+  pub others : List Step
+  pub stands : drop place parts
+      ≡ Part.function func (length (parts_of members) + 1) ∷ parts_of members ++ drop end parts
+  pub before : place < next
+  pub ends : place + 1 + length (parts_of members) ≡ end
+  pub follow : drop next parts ≡ parts_of left ++ drop end parts
+  pub left_ends : next + length (parts_of left) ≡ end
+  pub are : steps ≡ steps_by is_function left ++ steps_by is_leaf members
+      ++ function_step func ∷ others
 
-  -- a function begins, and ends if it has no members
-  abbrev pub with_function : Step → ℕ → Written T → Written T
-  with_function step members w =
-      let function : Open = record {
-        step = step;
-        members_left = members;
-        leaves = length w.leaves;
-      } in
-      if nat_le members 0 then ended (function ∷ w.begun) w.leaves w.steps
-      else record w { begun = function ∷ w.begun }
+-- The functions at these places have begun and not ended, the innermost one first. The parts from
+-- `next` on are left, and these steps are to write. `roots` are the trees outside of all functions.
+abbrev pub IsLeft : List Part → Trees Question → ℕ → List ℕ → List Step → Type 0
+IsLeft parts roots next [] steps = (left : Trees Question) × (drop next parts ≡ parts_of left)
+    × (steps ≡ steps_by is_function left ++ steps_by is_leaf roots)
+IsLeft parts roots next (place ∷ places) steps = (frame : Frame parts next place steps)
+    × IsLeft parts roots frame.end places frame.others
 
-  -- a node is written
-  abbrev pub with_node : Shape → Written T → Written T
-  with_node Shape.predicate w = with_leaf Ask w
-  with_node (Shape.literal truth) w = with_leaf (Literal truth) w
-  with_node (Shape.function func.Not) w = with_function Not 1 w
-  with_node (Shape.function (func.All count)) w = with_function (All count) count w
-  with_node (Shape.function (func.Any count)) w = with_function (Any count) count w
+-- the innermost of the functions at these places has a node at `next`
+abbrev pub IsInside : List Part → ℕ → List ℕ → Type 0
+IsInside parts next [] = Unit {0}
+IsInside parts next (place ∷ places) = (func : Func) × (len : ℕ) × (behind : List Part)
+    × (drop place parts ≡ Part.function func len ∷ behind) × (next < place + len)
 
-  -- all nodes are written
-  abbrev pub with_nodes : List Shape → Written T → Written T
-  with_nodes [] w = w
-  with_nodes (shape ∷ shapes) w = with_nodes shapes (with_node shape w)
+-- A function ends, whatever trees are read: the steps of the leaves among its members are next to
+-- write, and then its own.
+pub record Ends (parts : List Part) (next : ℕ) (places others : List ℕ) (func : Func)
+    (members : List Part) : Type 0 where
+  pub fewer : length others < length places
+  pub are : (trees : Trees Question) × (members ≡ parts_of trees)
+  pub left : (roots : Trees Question) (steps : List Step) → IsLeft parts roots next places steps
+      → (behind : List Step) × (steps ≡ own_leaves 0 members ++ function_step func ∷ behind)
+      × IsLeft parts roots next others behind
+
+-- Of all steps of `roots`, those that are not left to write stand in the buffer, which has room for
+-- the others; and there is room for the places of the functions that are left.
+pub record IsWriting {A T : Type 0} (form : Step → T) (roots : Trees Question) (next : ℕ)
+    (w : StepWriter A) (buffer : List T) : Type 0 where
+  pub steps : List Step
+  pub left : IsLeft (map part w.nodes.now) roots next (reverse w.begun.items) steps
+  pub wrote : take w.written buffer ++ map form steps
+      ≡ map form (steps_by is_function roots ++ steps_by is_leaf roots)
+  pub fits : length buffer ≡ length (steps_by is_function roots ++ steps_by is_leaf roots)
+  pub written : w.written ≤ length buffer
+  pub room : HasRoomFor w.begun (count_by begins_function (drop next (map part w.nodes.now)))

@@ -4,20 +4,20 @@
 //! members, and members come in the order in which they are asked. So each step that asks takes the
 //! next answer, and a function joins the last values of the stack.
 ghost use Rattle.std.specs.Prelude.{◌≡◌, ◌<◌, ◌≤◌, [], ◌∷◌, ◌++◌, ℕ, List, None, Some};
-ghost use Rattle.std.specs.Prelude.{◌+◌, IfErr, IfOk, IsTrue, MatchOption, OnErr, OnOk, count_by};
+ghost use Rattle.std.specs.Prelude.{◌+◌, IfErr, IfNone, IfOk, IfSome, IsTrue, MatchOption, OnErr, OnOk, count_by};
 ghost use Rattle.std.specs.Prelude.{◌↔◌, drop, length, map, reverse, slice_get, take};
 ghost use Rattle.std.specs.Cmp.Rules.{comparing};
 ghost use Rattle.std.proofs.Common.{rules};
 ghost use Rattle.smallvec.specs.SmallVec.{HasRoomFor};
 ghost use Rattle.cfg_expr.specs.Fold.{from_last};
-ghost use Rattle.cfgx_parser.specs.declared.function.Func.{Func};
-ghost use Rattle.cfgx_parser.specs.nodes.Shape.{Shape, shape};
+ghost use Rattle.cfgx_grammar.specs.Question.{Question};
+ghost use Rattle.cfgx_grammar.specs.Tree.{Trees};
 ghost use Rattle.cfg_expr.specs.Steps.{AreSteps, AreStepsAs, Fail, HasSteps, run_steps, step_eq};
 ghost use Rattle.cfg_expr.specs.nodes.Reading.{identity_of, join_of};
 ghost use Rattle.cfg_expr.specs.nodes.StepStack.{Holds, leave_one, popped};
-ghost use Rattle.cfg_expr.specs.nodes.StepWriting.{HasRoom, KeepsRoom, ended, is_function};
-ghost use Rattle.cfg_expr.specs.nodes.StepWriting.{with_function, with_leaf, with_node, with_nodes};
-ghost use Rattle.cfg_expr.specs.nodes.StepWriting.{written_of};
+ghost use Rattle.cfg_expr.specs.nodes.StepWriting.{Ends, IsInside, IsLeft, IsWriting};
+ghost use Rattle.cfg_expr.specs.nodes.StepWriting.{begins_function, function_step, own_leaves, part};
+ghost use Rattle.cfg_expr.specs.nodes.StepWriting.{parts_of};
 
 use super::evaluating::{Connective, literal_value};
 use super::{Condition, Func};
@@ -251,171 +251,185 @@ impl FromStep for Step {
     }
 }
 
-/// A function that has begun and not ended.
-#[derive(Clone, Copy, Default)]
-pub(crate) struct Open {
-    step: Step,
-    /// The number of its members that have not ended
-    members_left: usize,
-    /// The length of the writer's `leaves` when it began
-    leaves: usize,
-}
-
-/// Writes the steps of a condition into a buffer, in one pass over its nodes. It takes its memory
-/// before the pass, so that the buffer is written whole or not at all.
+/// Writes the steps of a condition into a buffer, in one pass over its nodes. The steps of the
+/// leaves of a function follow those of its member functions, so its members are read again when it
+/// ends. The writer takes its memory before the pass: the buffer is written whole or not at all.
 #[derive(Drop)]
-pub(crate) struct StepWriter<A: SmallAllocator> {
-    /// The functions that have begun and not ended, the innermost one last
-    begun: SmallVec<Open, 2, A>,
-    /// The steps of leaves whose function has not ended, those of inner functions last. When it
-    /// ends, they follow the steps of its member functions
-    leaves: SmallVec<Step, 4, A>,
-    /// The number of the other steps. These stand at the start of the buffer
+pub(crate) struct StepWriter<'n, A: SmallAllocator> {
+    /// All nodes of the condition
+    nodes: &'n [ExprNode],
+    /// The places of the functions that have begun and not ended, the innermost one last
+    begun: SmallVec<usize, 8, A>,
+    /// The number of steps that stand at the start of the buffer
     written: usize,
 }
 
-/// Writes `steps` into `buffer` from `begin` on.
-fn write_each<T: FromStep>(steps: &[Step], buffer: &mut [T], begin: usize)
-    requires { begin + length steps.now ≤ length buffer.old }
-    ensures { take (begin + length steps.now) buffer.new
-        ≡ take begin buffer.old ++ map T.form steps.now }
+/// Returns the step of a function.
+fn function_step(func: Func) -> Step
+    ensures { result ≡ function_step func }
 {
-    for i in 0..steps.len() {
-        buffer[begin + i] = T::from_step(steps[i]);
+    match func {
+        Func::Not => Step::Not,
+        Func::All(count) => Step::All(count),
+        Func::Any(count) => Step::Any(count),
     }
 }
 
-impl<A: SmallAllocator> StepWriter<A> {
-    /// Returns a writer that has written nothing.
-    fn new(alloc: A) -> Self
+impl<'n, A: SmallAllocator> StepWriter<'n, A> {
+    /// Returns a writer that has written nothing of these nodes.
+    fn new(alloc: A, nodes: &'n [ExprNode]) -> Self
+        ensures nodes { result.nodes.now ≡ nodes.now }
         ensures begun { result.begun.items ≡ [] }
-        ensures leaves { result.leaves.items ≡ [] }
         ensures written { result.written ≡ 0 }
     {
         StepWriter {
+            nodes,
             begun: SmallVec::new(alloc),
-            leaves: SmallVec::new(alloc),
             written: 0,
         }
     }
 
-    /// Reserves room for the steps of `nodes`. A writer that has room from the start would be
-    /// copied out of its result.
-    fn reserve(&mut self, nodes: &[ExprNode]) -> Result<(), AllocError>
-        ensures kept { (self.new.begun.items ≡ self.old.begun.items)
-            × (self.new.leaves.items ≡ self.old.leaves.items)
+    /// Reserves room for the places of the functions. A writer that has room from the start would
+    /// be copied out of its result.
+    fn reserve(&mut self) -> Result<(), AllocError>
+        requires { self.old.begun.items ≡ [] }
+        ensures kept { (self.new.nodes ≡ self.old.nodes)
+            × (self.new.begun.items ≡ self.old.begun.items)
             × (self.new.written ≡ self.old.written) }
-        ensures begun { OnOk result
-            (HasRoomFor self.new.begun (count_by is_function (map shape nodes.now))) }
-        ensures leaves { OnOk result (HasRoomFor self.new.leaves (length nodes.now)) }
+        ensures begun { OnOk result (HasRoomFor self.new.begun
+            (count_by begins_function (map part self.old.nodes.now))) }
     {
-        let functions = nodes
+        // Most conditions have few nodes, so their functions need not be counted.
+        if self.nodes.len() <= self.begun.capacity() {
+            return Ok(());
+        }
+        let functions = self
+            .nodes
             .iter()
             .filter(|node| matches!(node, ExprNode::Fn { .. }))
             .count();
-        self.begun.reserve(functions)?;
-        self.leaves.reserve(nodes.len())
+        self.begun.reserve(functions)
     }
 
-    /// Writes all leaves but the first `count`.
-    fn end_leaves<T: FromStep>(&mut self, count: usize, buffer: &mut [T])
-        requires { self.old.written + length self.old.leaves.items ≤ length buffer.old }
-        ensures begun { self.new.begun ≡ self.old.begun }
-        ensures leaves { self.new.leaves.items ≡ take count self.old.leaves.items }
-        ensures capacity { self.new.leaves.capacity ≡ self.old.leaves.capacity }
+    /// Writes a step.
+    fn write_step<T: FromStep>(&mut self, step: Step, buffer: &mut [T])
+        requires { self.old.written < length buffer.old }
+        ensures kept { (self.new.nodes ≡ self.old.nodes) × (self.new.begun ≡ self.old.begun) }
+        ensures written { self.new.written ≡ self.old.written + 1 }
+        ensures step { take self.new.written buffer.new
+            ≡ take self.old.written buffer.old ++ T.form step ∷ [] }
+    {
+        buffer[self.written] = T::from_step(step);
+        self.written += 1;
+    }
+
+    /// Writes the steps of the leaves among these members that stand in no inner function.
+    fn write_leaves<T: FromStep>(&mut self, members: &[ExprNode], buffer: &mut [T])
+        requires members { (trees : Trees Question) × (map part members.now ≡ parts_of trees) }
+        requires room { self.old.written + length (own_leaves 0 (map part members.now))
+            ≤ length buffer.old }
+        ensures kept { (self.new.nodes ≡ self.old.nodes) × (self.new.begun ≡ self.old.begun) }
         ensures written { self.new.written
-            ≡ self.old.written + length (drop count self.old.leaves.items) }
+            ≡ self.old.written + length (own_leaves 0 (map part members.now)) }
         ensures steps { take self.new.written buffer.new
-            ≡ take self.old.written buffer.old ++ map T.form (drop count self.old.leaves.items) }
+            ≡ take self.old.written buffer.old
+            ++ map T.form (own_leaves 0 (map part members.now)) }
     {
-        let begin = count.min(self.leaves.len());
-        let ended = &self.leaves.as_slice()[begin..];
-        write_each(ended, buffer, self.written);
-        self.written += ended.len();
-        self.leaves.truncate(begin);
-    }
-
-    /// Ends a member, and each function that ends with it.
-    fn end_member<T: FromStep>(&mut self, buffer: &mut [T])
-        requires { HasRoom self.old buffer.old [] }
-        ensures steps { written_of self.new buffer.new
-            ≡ ended T.form (written_of self.old buffer.old).begun
-            (written_of self.old buffer.old).leaves (written_of self.old buffer.old).steps }
-        ensures room { KeepsRoom self.old self.new buffer.new }
-    {
-        while let Some(function) = self.begun.pop() {
-            if function.members_left > 1 {
-                let members_left = function.members_left - 1;
-                self.begun.push_reserved(Open {
-                    members_left,
-                    ..function
-                });
-                return;
-            }
-            self.end_leaves(function.leaves, buffer);
-            buffer[self.written] = T::from_step(function.step);
-            self.written += 1;
+        let mut left = members;
+        while let Some((node, others)) = left.split_first() {
+            left = match node {
+                ExprNode::Fn { len, .. } => others.split_at(len - 1).1,
+                ExprNode::Predicate(_) => {
+                    self.write_step(Step::Ask, buffer);
+                    others
+                }
+                ExprNode::Literal(truth) => {
+                    self.write_step(Step::Literal(*truth), buffer);
+                    others
+                }
+            };
         }
     }
 
-    /// Writes the step of a leaf.
-    fn write_leaf<T: FromStep>(&mut self, step: Step, buffer: &mut [T])
-        requires { (shape : Shape) × HasRoom self.old buffer.old (shape ∷ []) }
-        ensures steps { written_of self.new buffer.new
-            ≡ with_leaf T.form step (written_of self.old buffer.old) }
-        ensures room { KeepsRoom self.old self.new buffer.new }
+    /// Pops the innermost function if its last node stands before `next`. Returns it with its
+    /// members, and `None` if it has a node at `next` or there is no function.
+    fn pop_ended(&mut self, next: usize) -> Option<(Func, &'n [ExprNode])>
+        requires left { (roots : Trees Question) × (steps : List Step)
+            × IsLeft (map part self.old.nodes.now) roots next (reverse self.old.begun.items) steps }
+        requires next { next ≤ length self.old.nodes.now }
+        ensures kept { (self.new.nodes ≡ self.old.nodes)
+            × (self.new.written ≡ self.old.written)
+            × (self.new.begun.capacity ≡ self.old.begun.capacity) }
+        ensures some { IfSome result (λ ended. Ends (map part self.old.nodes.now) next
+            (reverse self.old.begun.items) (reverse self.new.begun.items) ended.0
+            (map part ended.1.now)) }
+        ensures none { IfNone result ((self.new.begun.items ≡ self.old.begun.items)
+            × IsInside (map part self.old.nodes.now) next (reverse self.old.begun.items)) }
     {
-        self.leaves.push_reserved(step);
-        self.end_member(buffer);
+        let place = *self.begun.last()?;
+        let (node, members) = self.nodes.get(place..next)?.split_first()?;
+        let ExprNode::Fn { func, len } = node else {
+            return None;
+        };
+        if *len > next - place {
+            return None;
+        }
+        self.begun.pop();
+        Some((*func, members))
     }
 
-    /// Begins a function, whose step is written when its last member ends.
-    fn begin_function<T: FromStep>(&mut self, step: Step, members: usize, buffer: &mut [T])
-        requires { (func : Func) × HasRoom self.old buffer.old (Shape.function func ∷ []) }
-        ensures steps { written_of self.new buffer.new
-            ≡ with_function T.form step members (written_of self.old buffer.old) }
-        ensures room { KeepsRoom self.old self.new buffer.new }
+    /// Ends each function whose last node stands before `next`.
+    fn end_functions<T: FromStep>(&mut self, next: usize, buffer: &mut [T])
+        requires writing { (roots : Trees Question)
+            × IsWriting T.form roots next self.old buffer.old }
+        requires next { next ≤ length self.old.nodes.now }
+        ensures writing { (roots : Trees Question) → IsWriting T.form roots next self.old buffer.old
+            → IsWriting T.form roots next self.new buffer.new }
+        ensures inside { IsInside (map part self.new.nodes.now) next
+            (reverse self.new.begun.items) }
+        ensures nodes { self.new.nodes ≡ self.old.nodes }
     {
-        let leaves = self.leaves.len();
-        self.begun.push_reserved(Open {
-            step,
-            members_left: members,
-            leaves,
-        });
-        // A function without members ends at once, since `end_member` ends each function that has
-        // at most one member left.
-        if members == 0 {
-            self.end_member(buffer);
+        while let Some((func, members)) = self.pop_ended(next) {
+            self.write_leaves(members, buffer);
+            self.write_step(function_step(func), buffer);
         }
     }
 
-    /// Writes the next node.
-    fn write_node<T: FromStep>(&mut self, node: &ExprNode, buffer: &mut [T])
-        requires { HasRoom self.old buffer.old (shape node.now ∷ []) }
-        ensures steps { written_of self.new buffer.new
-            ≡ with_node T.form (shape node.now) (written_of self.old buffer.old) }
-        ensures room { KeepsRoom self.old self.new buffer.new }
+    /// Notes where a function begins, if the node at `place` is one.
+    fn read_node(&mut self, place: usize)
+        requires place { place < length self.old.nodes.now }
+        requires inside { IsInside (map part self.old.nodes.now) place
+            (reverse self.old.begun.items) }
+        requires room { HasRoomFor self.old.begun
+            (count_by begins_function (drop place (map part self.old.nodes.now))) }
+        ensures kept { (self.new.nodes ≡ self.old.nodes) × (self.new.written ≡ self.old.written) }
+        ensures room { HasRoomFor self.new.begun
+            (count_by begins_function (drop (place + 1) (map part self.old.nodes.now))) }
+        ensures left { (roots : Trees Question) (steps : List Step)
+            → IsLeft (map part self.old.nodes.now) roots place (reverse self.old.begun.items) steps
+            → IsLeft (map part self.old.nodes.now) roots (place + 1)
+            (reverse self.new.begun.items) steps }
     {
-        match node {
-            ExprNode::Predicate(_) => self.write_leaf(Step::Ask, buffer),
-            ExprNode::Literal(truth) => self.write_leaf(Step::Literal(*truth), buffer),
-            ExprNode::Fn { func, .. } => match func {
-                Func::Not => self.begin_function(Step::Not, 1, buffer),
-                Func::All(count) => self.begin_function(Step::All(*count), *count, buffer),
-                Func::Any(count) => self.begin_function(Step::Any(*count), *count, buffer),
-            },
-        }
+        let ExprNode::Fn { .. } = self.nodes[place] else {
+            return;
+        };
+        self.begun.push_reserved(place);
     }
 
     /// Writes all nodes, one after another.
-    fn write_nodes<T: FromStep>(&mut self, nodes: &[ExprNode], buffer: &mut [T])
-        requires { HasRoom self.old buffer.old (map shape nodes.now) }
-        ensures steps { written_of self.new buffer.new
-            ≡ with_nodes T.form (map shape nodes.now) (written_of self.old buffer.old) }
-        ensures room { HasRoom self.new buffer.new [] }
+    fn write_nodes<T: FromStep>(&mut self, buffer: &mut [T])
+        requires begun { self.old.begun.items ≡ [] }
+        requires writing { (roots : Trees Question)
+            × IsWriting T.form roots 0 self.old buffer.old }
+        ensures writing { (roots : Trees Question) → IsWriting T.form roots 0 self.old buffer.old
+            → IsWriting T.form roots (length self.new.nodes.now) self.new buffer.new }
+        ensures inside { IsInside (map part self.new.nodes.now) (length self.new.nodes.now)
+            (reverse self.new.begun.items) }
+        ensures nodes { self.new.nodes ≡ self.old.nodes }
     {
-        for node in nodes {
-            self.write_node(node, buffer);
+        for place in 0..self.nodes.len() {
+            self.read_node(place);
+            self.end_functions(place + 1, buffer);
         }
     }
 }
@@ -435,11 +449,11 @@ pub(crate) fn write_steps<T: FromStep, A: SmallAllocator>(
     ensures refused { OnErr result (buffer.new ≡ buffer.old) }
 {
     let nodes = condition.nodes();
-    let mut writer = StepWriter::new(alloc);
-    writer.reserve(nodes)?;
-    writer.write_nodes(nodes, buffer);
+    let mut writer = StepWriter::new(alloc, nodes);
+    writer.reserve()?;
+    writer.write_nodes(buffer);
     // A condition without a function is one leaf, which still waits.
-    writer.end_leaves(0, buffer);
+    writer.write_leaves(nodes, buffer);
     Ok(())
 }
 
