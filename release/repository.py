@@ -27,9 +27,19 @@ class Commit(NamedTuple):
         return time.strftime("%Y-%m-%d %H:%M:%S UTC", time.gmtime(self.seconds))
 
 
+class ToolError(Exception):
+    """A tool is missing, or fails. The message says which."""
+
+
 def output_of(*words: str) -> str:
-    """Returns what a command prints at the top of the repository."""
-    return subprocess.run(words, cwd=ROOT, check=True, stdout=subprocess.PIPE).stdout.decode()
+    """Returns what a command prints at the top of the repository. Raises `ToolError`."""
+    try:
+        run = subprocess.run(words, cwd=ROOT, check=True, stdout=subprocess.PIPE)
+    except FileNotFoundError as error:
+        raise ToolError(f"there is no `{words[0]}` on the path") from error
+    except subprocess.CalledProcessError as error:
+        raise ToolError(f"`{' '.join(words)}` ends with status {error.returncode}") from error
+    return run.stdout.decode()
 
 
 def read(path: str) -> bytes:
