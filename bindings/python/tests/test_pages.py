@@ -48,7 +48,7 @@ class Manifests(Shell):
     def test_commands(self):
         folder, host = self.write_watcher(), cfgx.manifest.report(self.write_watcher()).platforms[0]
         consoles = [text for language, text in blocks(MANIFESTS_PAGE) if language == "console"]
-        self.assertEqual(len(consoles), 3)
+        self.assertEqual(len(consoles), 4)
         for text in consoles:
             lines = text.splitlines(keepends=True)
             command = "".join(line[2:] for line in lines if line[:2] in ("$ ", "> "))
