@@ -2,8 +2,8 @@
 //! predicates and evaluates them.
 //!
 //! This crate has the names and signatures of [`cfg-expr`](https://docs.rs/cfg-expr/0.20), but for
-//! the table in `docs/RUST.md` of its repository. A program that uses nothing of this table changes
-//! one line of its manifest, in which `../cfgx` stands for the folder of the repository:
+//! the table in `docs/RUST.md` of its repository. If none of these differences matters to a program,
+//! it changes one line of its manifest, in which `../cfgx` stands for the folder of the repository:
 //!
 //! ```toml
 //! cfg-expr = { package = "cfgx", path = "../cfgx/bindings/rust" }
