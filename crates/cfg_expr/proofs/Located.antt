@@ -195,6 +195,7 @@ Locates-of text p cut = record {
   number = grind arith;
   key = record { cut = grind arith; are = grind arith };
   value = record { cut = grind arith; are = grind arith };
+  inside = (omega (arith, cut.0.ordered, cut.0.inside), cut.2);
 }
 
 listed_each : (text : List ℕ) (nodes : List ExprNode) (asks : List ℕ)

@@ -1,6 +1,6 @@
 -- Where the predicates of a condition stand in its text.
-use Rattle.std.specs.Prelude.{◌≡◌, ℕ, ◌+◌, ◌-◌, List, [], ◌∷◌, ◌++◌, Option, Some, None}
-use Rattle.std.specs.Prelude.{option_map}
+use Rattle.std.specs.Prelude.{◌≡◌, ◌≤◌, ℕ, ◌+◌, ◌-◌, List, [], ◌∷◌, ◌++◌, Option, Some, None}
+use Rattle.std.specs.Prelude.{length, option_map}
 use Rattle.std.specs.List.{AllZip}
 use Rattle.cfgx_fields.specs.declared.atomic.HasAtomic.{HasAtomic}
 use Rattle.cfgx_fields.specs.declared.atomic.HasAtomic.TheVariants as atomic
@@ -63,13 +63,14 @@ pub record StandAt (text : List ℕ) (bytes : Option (List ℕ)) (span : Option 
   pub cut : CanBeCut text span
   pub are : option_map (at text) span ≡ bytes
 
--- the predicate asks the question, and has the spans of its texts
+-- the predicate asks the question, has the spans of its texts, and lies in the text
 pub record Locates (text : List ℕ) (question : Question) (predicate : LocatedPredicate) : Type 0
   where
     pub kind : predicate.kind ≡ kind_of question
     pub number : predicate.number ≡ number_of question
     pub key : StandAt text (key_text question) predicate.key
     pub value : StandAt text (value_text question) predicate.value
+    pub inside : (predicate.span.start ≤ length text) × (predicate.span.end ≤ length text)
 
 -- the predicate with these spans of its key, of its value and of the whole
 abbrev pub located_predicate : Span → Span → Span → Question → LocatedPredicate

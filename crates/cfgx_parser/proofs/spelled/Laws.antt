@@ -1,7 +1,7 @@
 -- The laws of the builder of nodes: for the items of a tree its nodes are written.
 use Rattle.std.proofs.Common.{◌≡◌, ℕ, ◌+◌, true, false, List, [], ◌++◌, length, Option}
 use Rattle.std.proofs.Common.{option_map, rules, arith, Some, None, refl, ap, subst}
-use Rattle.std.specs.Prelude.{if◌then◌else◌, unwrap_or}
+use Rattle.std.specs.Prelude.{◌≤◌, if◌then◌else◌, unwrap_or}
 use Rattle.std.proofs.lemmas.List.{append-nil, length_push}
 use Rattle.cfgx_syntax.specs.Items.{Item}
 use Rattle.cfgx_grammar.{specs.Question.Leaf, specs.Question.Question, specs.Classification.Class}
@@ -9,13 +9,14 @@ use Rattle.cfgx_grammar.{specs.Classification.class, proofs.spelled.Calls, proof
 use Rattle.cfgx_grammar.proofs.ListLemmas.{all_of_first, all_of_second}
 use Rattle.cfgx_grammar.specs.Tree.{Tree, Trees, is_function, is_leaf, count}
 use Rattle.cfgx_grammar.{specs.parsing.State.Function, proofs.accepted.leaf_tree}
-use Rattle.cfgx_parser.specs.nodes.Located.{located, at, IsSpan}
+use Rattle.cfgx_parser.specs.nodes.Located.{IsSpan, at, located, predicate_located, whole_span}
 use Rattle.cfgx_parser.specs.{nodes.Node.{Written, with_leaf}, declared.nodes.Span.Span}
 use Rattle.cfgx_parser.specs.nodes.Prefix.{Node, headed, prefix, prefix_each, places, places_by}
 use Rattle.cfgx_parser.{specs.nodes.Prefix.with_places, proofs.spelled.WritingLemmas.length-nodes}
 use Rattle.cfgx_parser.specs.nodes.WritesNodes.{IsPlaced, ArePlaced, WritesNodes}
 use Rattle.cfgx_parser.specs.parsing.NodeState.{func_of, node_builder}
 use Rattle.cfgx_parser.specs.declared.nodes.ExprNode.TheVariants as node
+use Rattle.cfgx_parser.proofs.Spans.{whole_span-quoted, whole_span-word}
 use Rattle.cfgx_parser.proofs.spelled.LocatedClasses.{NamesClass, NamesClass-class}
 use Rattle.cfgx_parser.proofs.spelled.WritingLemmas.{WritesNodes-none, WritesNodes-then}
 use Rattle.cfgx_parser.proofs.spelled.WritingLemmas.{WritesNodes-leaf, WritesNodes-function}
@@ -54,15 +55,18 @@ module _ (text : List ℕ) where
 
   leaf_writes : (w : Written) (key_span : Span) (span : Option Span) (leaf : Leaf)
       → IsSpan text key_span → IsSpan text (unwrap_or span key_span)
+      → ((question : Question)
+      → (whole_span (predicate_located key_span span question)).end ≤ length text)
       → class (at text key_span) (option_map (at text) span) ≡ Class.is leaf
       → let tree = leaf_tree leaf in
       WritesNodes text w (with_leaf (located key_span span leaf) w) (prefix tree)
       (own (length w.nodes) tree) (inner (length w.nodes) tree)
-  leaf_writes w key_span span (Leaf.predicate question) key_cut cut classed =
+  leaf_writes w key_span span (Leaf.predicate question) key_cut cut ends classed =
       let named = subst (NamesClass text key_span span) classed
       (NamesClass-class text key_span span) in
-      WritesNodes-leaf text w _ (Node.leaf question) (ap Node.leaf named) (key_cut, cut)
-  leaf_writes w key_span span (Leaf.literal truth) key_cut cut classed =
+      WritesNodes-leaf text w _ (Node.leaf question) (ap Node.leaf named)
+      (key_cut, cut, ends question)
+  leaf_writes w key_span span (Leaf.literal truth) key_cut cut ends classed =
       WritesNodes-leaf text w (node.Literal truth) _ refl tt
 
   list_writes : (xs ys zs : List Item) (tree : Tree Question) (trees : Trees Question)
@@ -83,11 +87,13 @@ module _ (text : List ℕ) where
     MemberBuilds = MemberWrites;
     ListBuilds = ListWrites;
     key = λ x key leaf w is classed placed. let word = subst (IsPlaced text x) is placed.0 in
-        leaf_writes w _ None leaf word.1 word.1 (rw word.0 classed);
+        leaf_writes w _ None leaf word.1 word.1 (whole_span-word text x word.1)
+        (rw word.0 classed);
     value = λ x y z key value leaf w x_is z_is classed placed.
         let word = subst (IsPlaced text x) x_is placed.0 in
-        let other = subst (IsPlaced text z) z_is placed.1.1.0 in
-        leaf_writes w _ (Some _) leaf word.1 other.1 (rw (word.0, other.0) classed);
+        let (stands, within) = subst (IsPlaced text z) z_is placed.1.1.0 in
+        leaf_writes w _ (Some _) leaf word.1 stands.1
+        (whole_span-quoted text x z word.1 stands.1 within) (rw (word.0, stands.0) classed);
     none = λ w placed. WritesNodes-none text w;
     more = list_writes;
     list = λ function trees. call_writes (Function.list function) (Tree.list function trees) trees

@@ -1,5 +1,5 @@
 -- A leaf as a node, which has the spans of its parts and not their bytes.
-use Rattle.std.specs.Prelude.{ℕ, ◌+◌, ◌==◌, List, [], slice_range, Option, unwrap_or}
+use Rattle.std.specs.Prelude.{ℕ, ◌+◌, ◌≤◌, ◌==◌, List, [], length, slice_range, Option, unwrap_or}
 use Rattle.std.specs.Prelude.{if◌then◌else◌}
 use Rattle.cfgx_syntax.specs.Cut.{IsCut}
 use Rattle.cfgx_grammar.specs.Question.{Leaf, Question, TargetQuestion}
@@ -88,5 +88,7 @@ question_at text predicate =
 abbrev pub IsSpan : List ℕ → Span → Type 0
 IsSpan text span = IsCut text span.start span.end
 
+-- the text can be cut at the spans of key and value, and the whole predicate ends in the text
 abbrev pub HasCut : List ℕ → Located → Type 0
 HasCut text predicate = IsSpan text predicate.key × IsSpan text predicate.value
+    × ((whole_span predicate).end ≤ length text)

@@ -1,12 +1,13 @@
 -- What is written for trees of a text.
 use Rattle.cfgx_grammar.specs.Question.{Question}
-use Rattle.std.specs.Prelude.{◌≡◌, ℕ, ◌+◌, ◌-◌, List, ◌++◌, map}
+use Rattle.std.specs.Prelude.{◌≡◌, ◌≤◌, ℕ, List, ◌++◌, length, map}
 use Rattle.std.specs.List.{AllByRecursion}
 use Rattle.cfgx_syntax.specs.Token.{Token}
 use Rattle.cfgx_syntax.specs.Items.{Item}
 use Rattle.cfgx_parser.specs.nodes.Located.{IsSpan, HasCut, at}
 use Rattle.cfgx_parser.specs.nodes.Node.{Written}
 use Rattle.cfgx_parser.specs.nodes.Prefix.{Node, node_at}
+use Rattle.cfgx_parser.specs.nodes.ReadFrom.{quoted_span, word_span}
 use Rattle.cfgx_parser.specs.declared.nodes.Span.{Span}
 use Rattle.cfgx_parser.specs.declared.nodes.ExprNode.{ExprNode}
 use Rattle.cfgx_parser.specs.declared.nodes.ExprNode.TheVariants as node
@@ -20,15 +21,11 @@ NodeHasCut text (node.Literal truth) = Unit {0}
 abbrev pub StandsAt : List ℕ → Span → List ℕ → Type 0
 StandsAt text span word = (at text span ≡ word) × IsSpan text span
 
--- the word of a key or of a value stands where its item says
+-- the word of a key or of a value stands where its item says, which ends in the text
 abbrev pub IsPlaced : List ℕ → Item → Token → Type 0
-IsPlaced text item (Token.key word) = StandsAt text (record { start = item.start; end = item.end })
-    word
-IsPlaced text item (Token.value word) = StandsAt text (record {
-  start = item.start + 1;
-  end =
-      item.end - 1;
-}) word
+IsPlaced text item (Token.key word) = StandsAt text (word_span item) word
+IsPlaced text item (Token.value word) =
+    StandsAt text (quoted_span item) word × (item.end ≤ length text)
 IsPlaced text item _ = Unit {0}
 
 abbrev pub ArePlaced : List ℕ → List Item → Type 0
