@@ -75,7 +75,7 @@ pub enum Decision {
     /// The value, whatever the unknown answers are
     Known(bool),
     /// The value depends on the unknown answers, as two fillings show. A filling has one truth
-    /// value for each answer, in order: the answer, if it is known
+    /// value for each answer, in order. For a known answer it is that answer
     Unknown {
         /// A filling with which the condition is true
         if_true: Vec<bool>,

@@ -69,7 +69,7 @@ pub enum Decision<A: Allocator = Global> {
     /// The value, whatever the unknown answers are
     Known(bool),
     /// The value depends on the unknown answers, as two fillings show. A filling has one truth
-    /// value for each answer, in order: the answer, if it is known
+    /// value for each answer, in order. For a known answer it is that answer
     Unknown {
         /// A filling with which the condition is true
         if_true: Vec<bool, A>,
@@ -168,6 +168,10 @@ impl<A: SmallAllocator> Expression<A> {
     }
 
     /// Does what `parse` does, under the name of Rust's trait, which has no allocator to pass.
+    ///
+    /// # Errors
+    ///
+    /// Those of `parse`.
     pub fn from_str(alloc: A, text: &str) -> Result<Self, Failure<A>>
         ensures { Answers (strip text.now) result }
     {

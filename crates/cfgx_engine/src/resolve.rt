@@ -47,7 +47,7 @@ impl<A: SmallAllocator> Drop for Section<A> {
     }
 }
 
-/// Whether a section counts on a target.
+/// Whether a section counts on a target. Each occurrence of a predicate has an answer of its own.
 #[derive(Clone, Copy, Debug)]
 pub enum Verdict {
     /// It counts, whatever the unknown answers are
@@ -207,7 +207,8 @@ pub(crate) fn eval_on_target<A: SmallAllocator, M: TargetMatcher>(
 /// `matcher`. Every other answer is unknown.
 ///
 /// A verdict is `Yes` exactly if every way to fill the unknown answers makes the section's
-/// condition true, and `No` exactly if every way makes it false.
+/// condition true, and `No` exactly if every way makes it false. Each occurrence of a predicate is
+/// filled by itself, so the verdict on `any(test, not(test))` is `Unknown`.
 ///
 /// # Errors
 ///

@@ -125,8 +125,8 @@ pub enum ExprNode {
     Literal(bool),
 }
 
-/// Room in a vector needs a default. Nothing reads it.
-// The longest variant, whose fields are all written: a vector of another one would be copied.
+/// `SmallVec` fills its unused inline room with this value. Nothing reads it.
+// This is the longest variant. LLVM would build a shorter one elsewhere and copy it to each place.
 impl Default for ExprNode {
     fn default() -> Self {
         let none = Span { start: 0, end: 0 };
@@ -147,7 +147,7 @@ pub(crate) struct Mark {
     pub(crate) waiting: usize,
 }
 
-/// The number of bytes of a text for which one node is expected.
+/// The number of bytes of text that are expected for each node.
 const BYTES_PER_NODE: usize = 8;
 
 /// The fewest nodes for which room is added when a text first outgrows the room there is.
@@ -157,10 +157,11 @@ const MIN_CAPACITY: usize = 3;
 /// it stands, and is not copied.
 const MAX_CAPACITY: usize = 3584;
 
-/// The capacity that `move_to_heap` reserves for each vector.
+/// The capacity that `move_to_heap` reserves for each vector. It is greater than each inline
+/// capacity, or `reserve` would leave a vector inline.
 pub(crate) const KEPT_CAPACITY: usize = 8;
 
-/// Returns for how many more nodes room is added in a text of `len` bytes.
+/// Returns how many more nodes to reserve when those of a text of `len` bytes outgrow their room.
 fn capacity_for(len: usize) -> usize {
     (len / BYTES_PER_NODE).max(MIN_CAPACITY).min(MAX_CAPACITY)
 }
@@ -341,6 +342,7 @@ impl<A: SmallAllocator> NodeWriter<A> {
         ensures kept { KeepsNodes (written_of self.old) (written_of self.new) }
     {
         let count = self.waiting_count;
+        // Never less than `begin`: an inner list takes its own predicates alone.
         if count <= begin {
             return Ok(());
         }
@@ -355,6 +357,7 @@ impl<A: SmallAllocator> NodeWriter<A> {
     fn complete(&mut self, place: usize, func: Func)
         ensures { written_of self.new ≡ completed place func (written_of self.old) }
     {
+        // Always true: the node was written when the function began.
         if place < self.node_count {
             let len = self.node_count - place;
             self.nodes[place] = ExprNode::Fn { func, len };

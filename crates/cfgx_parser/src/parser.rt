@@ -55,7 +55,7 @@ pub(crate) struct OpenFunc {
     around: OpenList,
 }
 
-/// Room in a vector needs a default. Nothing reads it.
+/// `SmallVec` fills its unused inline room with this value. Nothing reads it.
 impl Default for OpenFunc {
     fn default() -> Self {
         OpenFunc {
@@ -149,7 +149,8 @@ pub struct Parser<'a, A: SmallAllocator> {
     ghost countable: { length writer.nodes.items < 2 ^ 64 },
 }
 
-/// Whether `token` may stand after the last one, or at the start.
+/// Whether `token` may stand after the last one, or at the start. Commas may repeat, as in
+/// `cfg-expr`.
 fn may_follow(last: LastToken, token: Token<'_>) -> bool
     ensures { result ≡ next (token_like last) (token_of token.entry) }
 {
@@ -166,8 +167,8 @@ fn may_follow(last: LastToken, token: Token<'_>) -> bool
     }
 }
 
-/// Returns the reason of a token that may not follow `last`: what was expected there. Commas may
-/// repeat, as in `cfg-expr`, and the list after a comma names neither `,` nor the functions.
+/// Returns the reason of a token that may not follow `last`: what was expected there. The list
+/// after a comma names neither `,` nor the functions, though they may follow.
 fn expected(last: LastToken) -> Reason
     ensures { cause_of result ≡ unexpected (expected (token_like last)) }
 {
@@ -261,7 +262,7 @@ impl<'a, A: SmallAllocator> Parser<'a, A> {
         self.writer.expect(len);
     }
 
-    /// Moves the vectors to the heap: inline storage is rewritten by every `clear`.
+    /// Moves the vectors to the heap, since `clear` overwrites each inline element with a default.
     #[cold]
     #[inline(never)]
     fn move_to_heap(&mut self) -> Result<(), AllocError>
@@ -302,8 +303,8 @@ impl<'a, A: SmallAllocator> Parser<'a, A> {
         Halt::Fault
     }
 
-    /// Returns the failure for `halt`. That for a fault has a copy of the text, and is `Memory` if
-    /// memory for it is refused.
+    /// Returns the failure for `halt`. A `Failure::Parse` holds a copy of the text. If memory for
+    /// the copy is refused, returns `Failure::Memory`.
     fn failure(&self, alloc: A, original: &str, halt: Halt) -> Failure<A>
         ensures { FailsAsHalted original.now halt self.now result }
     {
@@ -350,6 +351,7 @@ impl<'a, A: SmallAllocator> Parser<'a, A> {
     fn write_leaf(&mut self) -> Result<(), Halt>
         ensures { WritesPending self.old self.new result }
     {
+        // Never `None`: `write_pending` tests this.
         let Some(pending) = &self.pending else {
             return Ok(());
         };
@@ -416,11 +418,12 @@ impl<'a, A: SmallAllocator> Parser<'a, A> {
         Ok(())
     }
 
-    /// Notes the value of the pending predicate, which stands in quotes at `span`.
+    /// Notes `text` as the value of the pending predicate. `span` includes the quotes around it.
     fn add_value(&mut self, text: &'a str, span: Span)
         requires { span.start + 1 ≤ span.end }
         ensures { state_of self.new ≡ value_added (state_of self.old) text.now span }
     {
+        // Never `None`: a value follows `=`, which follows the key of the pending predicate.
         if let Some(pending) = &mut self.pending {
             pending.value = Some(LocatedText {
                 text,

@@ -114,8 +114,7 @@ impl<'a> Condition<'a> {
     }
 
     /// Evaluates the condition over the answers that `answers` gives, one for each predicate in the
-    /// order of `predicates`. Each answer is taken when its turn comes, and none is taken after the
-    /// last.
+    /// order of `predicates`. Each answer is taken when its turn comes.
     ///
     /// # Errors
     ///
@@ -276,8 +275,8 @@ impl<'a, A: SmallAllocator> ConditionReader<'a, A> {
         }
     }
 
-    /// Makes the parser ready for a text of `len` bytes. A new one is not cleared, which would take
-    /// a tenth of what it takes to read a short text.
+    /// Makes the parser ready for a text of `len` bytes. A new parser is not cleared, since that
+    /// would cost a tenth of reading a short text.
     #[inline(always)]
     fn begin(&mut self, len: usize) -> Result<(), AllocError>
         ensures ready { state_of self.new.parser ≡ initial }

@@ -1,6 +1,6 @@
 //! Evaluation of a condition. Each answer goes into the slot of its node. Then the nodes are read
-//! from the last to the first, with one stack: a leaf is pushed, and a function replaces its
-//! members by their joined value. The last entry is the value of the condition.
+//! from the last to the first, with one stack: a leaf is pushed, and a function replaces the values
+//! of its members by its own. The last entry is the value of the condition.
 //!
 //! Unread answers occupy the front of the slots, and the stack occupies the back. They never
 //! overlap, since each node has one slot and pushes one entry. The nodes are in the order of the
@@ -48,6 +48,7 @@ pub(crate) enum Slot<T> {
 pub(crate) enum Form {
     /// A predicate or a literal
     Leaf,
+    /// `all`, `any` or `not`
     Function,
 }
 
@@ -244,7 +245,7 @@ pub(super) fn eval_nodes<T: Logic>(nodes: &[ExprNode], slots: &mut [Slot<T>]) ->
 }
 
 /// Pushes `count` empty slots to `slots`, which is new. Up to 33 are inline and take no memory. A
-/// text has no more nodes than bytes, so this is enough for the 32 bytes that callers promise.
+/// text has no more nodes than bytes, so one of at most 32 bytes takes none, as `eval` promises.
 // A new vector that was returned in a `Result` would be copied out of it.
 pub(super) fn push_empty_slots<T: Logic, A: Allocator>(
     slots: &mut SmallVec<Slot<T>, 33, &A>,
@@ -269,8 +270,8 @@ fn put_answer<T: Logic>(answer: T, place: usize, slots: &mut [Slot<T>])
     slots[place] = Slot::Leaf(answer);
 }
 
-/// Returns what `ep` answers to `predicate`. The predicate is dropped here: if the loop of
-/// `ask_each` dropped it, the proof of the loop would have a case for each kind of predicate.
+/// Returns what `ep` answers to `predicate`. The predicate is dropped here, since a drop in the
+/// loop of `ask_each` would take longer to prove.
 fn ask<EP, T>(predicate: Predicate<'_>, ep: &mut EP) -> T
 where
     EP: FnMut(&Predicate<'_>) -> T,

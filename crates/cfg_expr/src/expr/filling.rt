@@ -44,8 +44,8 @@ fn push_repeated<A: SmallAllocator>(
     Ok(())
 }
 
-/// Pops the entry of `node` from `pending`, and pushes one for each of its members. Pushes to
-/// `negated` whether `node` is a predicate below an odd number of `not`.
+/// Takes the step of the pass at `node`: pops its entry from `pending`, and pushes one for each of
+/// its members. Pushes to `negated` whether `node` is a predicate below an odd number of `not`.
 fn pass_node<A: SmallAllocator>(
     node: &ExprNode,
     pending: &mut SmallVec<bool, 33, &A>,
@@ -70,8 +70,8 @@ fn pass_node<A: SmallAllocator>(
     Ok(())
 }
 
-/// Pushes to `negated`, for each node, whether it is a predicate below an odd number of `not`.
-/// `pending` is the stack of the pass, which begins empty.
+/// Passes over the nodes, and pushes to `negated`, for each, whether it is a predicate below an odd
+/// number of `not`. `pending` is the stack of the pass, which begins empty.
 fn pass_nodes<A: SmallAllocator>(
     nodes: &[ExprNode],
     pending: &mut SmallVec<bool, 33, &A>,
@@ -89,7 +89,7 @@ fn pass_nodes<A: SmallAllocator>(
     Ok(())
 }
 
-/// Reserves capacity for `count` items in `filling`, its own items included. These stay.
+/// Makes the capacity of `filling` at least `count`. Its items stay.
 fn ensure_capacity<A: Allocator>(filling: &mut Vec<bool, A>, count: usize) -> Result<(), AllocError>
     ensures items { filling.new.items ≡ filling.old.items }
     ensures room { OnOk result (count ≤ vec_capacity filling.new) }

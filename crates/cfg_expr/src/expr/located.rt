@@ -48,7 +48,8 @@ fn atomic_number(width: HasAtomic) -> u32
     }
 }
 
-/// Returns the number of a width, of an atomic or of a byte order, and 0 for every other predicate.
+/// Returns the number of a pointer width, an atomic or a byte order, and 0 for every other
+/// predicate.
 fn number_of(predicate: InnerPredicate) -> u32
     ensures { (key : List ℕ) → (value : List ℕ)
         → result ≡ number_of (question_with key value predicate) }
@@ -61,7 +62,7 @@ fn number_of(predicate: InnerPredicate) -> u32
     }
 }
 
-/// Returns the span of the key of a `Flag` or a `KeyValue`.
+/// Returns the span of the key of a `Flag` or a `KeyValue`, and `None` for every other kind.
 fn key_span(predicate: Located) -> Option<Span>
     ensures { result ≡ key_span predicate.key predicate.asked }
 {
@@ -72,7 +73,7 @@ fn key_span(predicate: Located) -> Option<Span>
 }
 
 /// Returns the span of the value, or of `unix` or `windows`, if there is one and the number does
-/// not say it.
+/// not say it, else `None`.
 fn value_span(predicate: Located) -> Option<Span>
     ensures { result ≡ value_span predicate.value predicate.asked }
 {

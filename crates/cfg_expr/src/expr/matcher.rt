@@ -49,7 +49,7 @@ impl<A: Allocator> TargetMatcher for TargetInfo<'_, A> {
     }
 }
 
-// Whether `field`, which is that of `key`, has the text `text`.
+/// Whether `field`, which is that of `key`, has the text `text`.
 fn has_text<K, A: Allocator>(key: TextKey, field: &Option<Field<'_, K, A>>, text: &str) -> bool
     ensures { result ≡ has_text key field.now text.now }
 {
@@ -63,7 +63,7 @@ fn has_text<K, A: Allocator>(key: TextKey, field: &Option<Field<'_, K, A>>, text
     }
 }
 
-// Returns the answers of the rows: lane `i` is that of row `i`.
+/// Returns the answers of the rows: lane `i` is that of row `i`.
 fn answers_of<T: TargetMatcher>(predicate: &TargetPredicate<'_>, rows: &[T]) -> Kleene64
     requires { length rows.now ≤ 64 }
     ensures { EachLane result
@@ -96,8 +96,8 @@ impl<'a, A: Allocator> TargetPredicate<'a, A> {
         answers_of(&self.borrowed(), rows)
     }
 
-    // Returns the predicate with its text borrowed, so that a matcher does not depend on the
-    // allocator that may own the text.
+    /// Returns the predicate with its text borrowed, so that a matcher does not depend on the
+    /// allocator that may own the text.
     fn borrowed(&self) -> TargetPredicate<'_>
         ensures { target_of result ≡ target_of self.now }
     {

@@ -32,7 +32,7 @@ fn write_once<'a, W: Write>(writer: &mut W, bytes: &'a [u8]) -> io::Result<&'a [
     }
 }
 
-/// Writes all bytes, in as many calls as the writer needs. Tries no failed call again.
+/// Writes all bytes, in as many calls as the writer needs. A call that failed is not tried again.
 #[tactic(auto, using(crate::proofs::Parts::takes_more))]
 fn write_bytes<W: Write>(writer: &mut W, bytes: &[u8]) -> io::Result<()>
     ensures { Writes (W.contents writer.old) (W.contents writer.new) result bytes.now }
@@ -180,8 +180,8 @@ fn write_predicate<W: Write, A: Allocator>(
 /// Writes the spelling of a predicate: its key, and for a value ` = ` and the value in quotes.
 /// `docs/RULES.md` has the table. Takes no memory.
 ///
-/// Calls `write` as often as the writer needs, never with an empty slice, and tries no failed call
-/// again.
+/// Calls `write` as often as the writer needs, never with an empty slice. A call that failed is not
+/// tried again, not even one that was interrupted.
 ///
 /// A predicate that can stand in a text, such as one of an expression, can be parsed from its
 /// spelling: nothing is stripped, and the expression asks this predicate alone.

@@ -2,7 +2,7 @@
 //!
 //! A loop with a stack of values runs the steps. The step of a function comes after those of its
 //! members, and members come in the order in which they are asked. So each step that asks takes the
-//! next answer, and a function joins the last values of the stack.
+//! next answer, and a function pops the values of its members and pushes its own.
 ghost use Rattle.std.specs.Prelude.{◌≡◌, ◌<◌, ◌≤◌, [], ◌∷◌, ◌++◌, ℕ, List, None, Some};
 ghost use Rattle.std.specs.Prelude.{◌+◌, IfErr, IfNone, IfOk, IfSome, IsTrue, MatchOption, OnErr, OnOk, count_by};
 ghost use Rattle.std.specs.Prelude.{◌↔◌, drop, length, map, reverse, slice_get, take};
@@ -38,11 +38,9 @@ pub enum Step {
     Literal(bool),
     /// Pops a value, and pushes its negation
     Not,
-    /// Pops this number of values, and pushes `top`, joined by `and` with each value in the order
-    /// of popping
+    /// Pops this number of values, joins `top` by `and` with each in turn, and pushes the result
     All(usize),
-    /// Pops this number of values, and pushes `bottom`, joined by `or` with each value in the order
-    /// of popping
+    /// Pops this number of values, joins `bottom` by `or` with each in turn, and pushes the result
     Any(usize),
 }
 
@@ -70,11 +68,11 @@ impl Eq for Step {
 /// Why steps have no value over answers.
 #[derive(Debug, Drop)]
 pub enum StepsError {
-    /// There are no answers over which the steps have a value.
+    /// There are no answers over which the steps have a value
     NoValue,
-    /// The steps have a value over another number of answers.
+    /// The steps have a value over another number of answers
     Miscounted,
-    /// The allocator refused memory.
+    /// The allocator refused memory
     Memory(AllocError),
 }
 
@@ -251,16 +249,16 @@ impl FromStep for Step {
     }
 }
 
-/// Writes the steps of a condition into a buffer, in one pass over its nodes. The steps of the
-/// leaves of a function follow those of its member functions, so its members are read again when it
-/// ends. The writer takes its memory before the pass: the buffer is written whole or not at all.
+/// Writes the steps of a condition into a buffer. It reads the nodes in order. It reads the members
+/// of a function again when the function ends, since the steps of its leaves follow those of its
+/// member functions. It takes its memory first, so the buffer is written whole or not at all.
 #[derive(Drop)]
 pub(crate) struct StepWriter<'n, A: SmallAllocator> {
     /// All nodes of the condition
     nodes: &'n [ExprNode],
     /// The places of the functions that have begun and not ended, the innermost one last
     begun: SmallVec<usize, 8, A>,
-    /// The number of steps that stand at the start of the buffer
+    /// The number of steps written so far
     written: usize,
 }
 
@@ -289,8 +287,8 @@ impl<'n, A: SmallAllocator> StepWriter<'n, A> {
         }
     }
 
-    /// Reserves room for the places of the functions. A writer that has room from the start would
-    /// be copied out of its result.
+    /// Reserves room for the places of the functions. If `new` did this, it would return a
+    /// `Result`, and the writer would be copied out of it.
     fn reserve(&mut self) -> Result<(), AllocError>
         requires { self.old.begun.items ≡ [] }
         ensures kept { (self.new.nodes ≡ self.old.nodes)
@@ -368,6 +366,7 @@ impl<'n, A: SmallAllocator> StepWriter<'n, A> {
     {
         let place = *self.begun.last()?;
         let (node, members) = self.nodes.get(place..next)?.split_first()?;
+        // Always a function: `begun` has no other places.
         let ExprNode::Fn { func, len } = node else {
             return None;
         };
@@ -452,7 +451,7 @@ pub(crate) fn write_steps<T: FromStep, A: SmallAllocator>(
     let mut writer = StepWriter::new(alloc, nodes);
     writer.reserve()?;
     writer.write_nodes(buffer);
-    // A condition without a function is one leaf, which still waits.
+    // A condition without a function is one leaf, which is not written yet.
     writer.write_leaves(nodes, buffer);
     Ok(())
 }

@@ -53,8 +53,8 @@ enum Line<'a> {
 }
 
 /// Returns the output for `text`: the verdict of `target` on each section, with the two
-/// fillings if it is unknown. If a line is faulty, the output is the message of the first such line
-/// alone.
+/// fillings if it is unknown. Empty lines are skipped. If a line is faulty, the output is the
+/// message of the first such line alone.
 pub(super) fn sections_output<A: SmallAllocator>(
     alloc: A,
     target: &TargetInfo<'_, A>,
@@ -120,8 +120,8 @@ fn split_line(line: &str) -> Line<'_>
     }
 }
 
-/// Returns the number of bytes before the first tab. Names are short, so this loop is faster than
-/// `split_once`.
+/// Returns the number of bytes before the first tab, or `bytes.len()` if there is no tab. Names are
+/// short, so this loop is faster than `split_once`.
 #[tactic(auto, using(cfgx_syntax::proofs::Classes::counted))]
 fn name_len(bytes: &[u8]) -> usize
     ensures len { result ≡ position_or_len is_tab bytes.now }
@@ -227,7 +227,7 @@ fn fault_message<A: Allocator>(
     }
 }
 
-/// Pushes `decision` as a verdict. If the value is unknown, also pushes the two fillings.
+/// Pushes a tab, the verdict and a newline. If the value is unknown, also pushes the two fillings.
 fn push_decision<A: Allocator>(
     decision: &Decision<A>,
     printed: &mut Vec<u8, A>,

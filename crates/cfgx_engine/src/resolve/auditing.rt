@@ -1,7 +1,4 @@
-//! The values of a condition on many targets, by one evaluation in 64 lanes for each 64 of them.
-//!
-//! `ask` takes a predicate by value: with the drop in the loop of `ask_all`, the proof would go
-//! over all kinds of predicates.
+//! The values of a condition on many targets. One evaluation in 64 lanes serves up to 64 of them.
 ghost use Rattle.std.specs.Prelude.{◌≡◌, ◌≤◌, length, IfOk, OnOk};
 ghost use Rattle.std.specs.List.{AllZip};
 ghost use Rattle.cfgx_grammar.specs.Answer.{HasOneTree};
@@ -33,6 +30,7 @@ pub(super) trait Piece<T> {
         ensures few { result ≤ 64 };
 
     /// Returns the answers to a predicate: lane `i` is that of target `i`.
+    // By value, since a drop in the loop of `ask_all` would take longer to prove.
     fn ask(&self, predicate: Predicate<'_>) -> Kleene64
         ensures { InLanes (answers self.now) (targets self.now) (question_of predicate.entry)
             result };
@@ -67,7 +65,8 @@ impl<M: TargetMatcher> Piece<M> for ByMatching<'_, M> {
 }
 
 /// Evaluates the condition on each matcher, and pushes each value, converted to `V`, in order. For
-/// each 64 of them, each predicate is asked once, and the condition is evaluated once.
+/// each piece of at most 64 matchers, the condition is evaluated once. Each matcher is asked each
+/// predicate on the target once.
 pub(super) fn push_values<A: SmallAllocator, M: TargetMatcher, V: From<Option<bool>> + Drop>(
     alloc: A,
     condition: &Condition<'_>,

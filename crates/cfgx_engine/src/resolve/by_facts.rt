@@ -73,6 +73,8 @@ impl<'a, A: SmallAllocator> Indexed<'a, A> {
             (question_of predicate.now) result }
     {
         let named = answers_to(&self.index, &Parts::of(predicate));
+        // If no fact of a target names the predicate, its lane is false and takes the unnamed
+        // answer. Else it is true or unknown, and stays so, since that answer is false or unknown.
         named.or(all_lanes(unnamed_answer(predicate, otherwise)))
     }
 }
@@ -136,8 +138,8 @@ pub struct AuditError<A: Allocator = Global> {
 /// a predicate that no fact names.
 ///
 /// Targets are taken in pieces of 64, and the facts of each piece are indexed once. Then each
-/// condition is read once. For each piece, each of its predicates is looked up once, and it is
-/// evaluated once.
+/// condition is read once. For each piece, each predicate of the condition is looked up once, and
+/// the condition is evaluated once.
 ///
 /// # Errors
 ///
@@ -159,6 +161,7 @@ pub fn audit_facts<A: SmallAllocator>(
     ensures index { IfErr result (λ error. FollowsConditions (texts conditions.now) error.index) }
 {
     let mut values = Vec::new(alloc);
+    // Without a text, nothing asks the targets, and an error would have no index.
     if conditions.is_empty() {
         return Ok(values);
     }

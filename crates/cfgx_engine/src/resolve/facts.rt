@@ -130,7 +130,7 @@ impl<A: SmallAllocator> Model for Facts<A> {
 }
 
 impl<A: SmallAllocator> Facts<A> {
-    /// Reads facts, as `cfgx eval` does its flags, and returns them.
+    /// Reads each of `flags` as a fact, as `cfgx eval` does, and returns the facts.
     ///
     /// # Errors
     ///
@@ -214,8 +214,8 @@ impl<A: SmallAllocator> Facts<A> {
         }
     }
 
-    /// Joins to `index`, in the lane `lane`, what the facts answer if what no fact names is false.
-    /// Before, the lane is false for every predicate.
+    /// Joins the answers of the facts to the lane `lane` of `index`. Before, the lane has to be
+    /// false for every predicate. It stays false for each that no fact names.
     pub(super) fn join_to<'a>(
         &'a self,
         index: &mut Index<'a, A>,

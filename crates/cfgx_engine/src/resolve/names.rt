@@ -1,4 +1,4 @@
-//! The predicates that facts name, sorted, so that one is found by halving.
+//! The predicates that facts name, sorted, so that a binary search finds one.
 ghost use Rattle.std.specs.Prelude.{◌≡◌, ◌↔◌, ◌++◌, ◌∷◌, [], drop, take, map};
 ghost use Rattle.std.specs.Prelude.{IsTrue, OnOk};
 ghost use Rattle.std.specs.List.{Contains};
@@ -15,7 +15,8 @@ use std::alloc::{AllocError, Allocator};
 use std::cmp::Ordering;
 use std::marker::Model;
 
-/// A predicate that facts name. Its key and its value stand one behind the other in a buffer.
+/// A predicate that facts name. `kind` and `number` are those of its `Parts`. In the buffer, its
+/// key begins at `start`, and its value directly follows.
 #[derive(Clone, Copy, Debug)]
 struct Named {
     kind: u32,
@@ -45,7 +46,7 @@ impl Named {
     fn compare(self, buffer: &[u8], other: &Parts<'_>) -> Ordering
         ensures { result ≡ code_cmp (code_at buffer.now self) (code other.now) }
     {
-        // Most of those that halving meets have another kind, so nothing else is looked at.
+        // Most of those that a binary search meets have another kind, so nothing else is compared.
         let kinds = self.kind.cmp(&other.kind);
         if kinds.is_ne() {
             return kinds;
@@ -66,6 +67,7 @@ impl Named {
 }
 
 /// Returns the first `len` bytes, or all if there are fewer.
+// There never are, here or in `behind`: the texts lie in the buffer, by the invariant of `Names`.
 fn front(bytes: &[u8], len: usize) -> &[u8]
     ensures { result.now ≡ take len bytes.now }
 {
@@ -163,7 +165,8 @@ impl<A: Allocator> Names<A> {
             .sort_unstable_by(|one, other| one.compare(buffer, &other.parts(buffer)));
     }
 
-    /// Whether the predicate with the parts `asked` was added. They have to be sorted.
+    /// Whether the predicate with the parts `asked` was added. Those that were added have to be
+    /// sorted.
     // Inlined, so that an empty list costs no call.
     #[inline(always)]
     pub(super) fn has(&self, asked: &Parts<'_>) -> bool
@@ -173,7 +176,8 @@ impl<A: Allocator> Names<A> {
         !self.is_empty() && self.finds(asked)
     }
 
-    /// Whether a binary search finds the predicate with the parts `asked`. They have to be sorted.
+    /// Whether a binary search finds the predicate with the parts `asked`. Those that were added
+    /// have to be sorted.
     fn finds(&self, asked: &Parts<'_>) -> bool
         requires { IsSorted code_cmp self.now }
         ensures { IsTrue result ↔ Contains self.now (code asked.now) }
