@@ -1,8 +1,7 @@
 -- Items that are written over those of a buffer, one after another.
 use Rattle.std.proofs.Common.{◌≡◌, ◌∙◌, ◌+◌, ◌<◌, ◌≤◌, ℕ, suc, List, [], ◌∷◌, ◌++◌, ap}
-use Rattle.std.proofs.Common.{◌⊎◌, append_assoc, arith, drop, get_or, inl, inr, length, map, refl}
-use Rattle.std.proofs.Common.{sym, take}
-use Rattle.std.proofs.lemmas.Bool.{cases_lt, le-leb, lt-leb}
+use Rattle.std.proofs.Common.{append_assoc, arith, drop, get_or, length, map, refl, sym, take}
+use Rattle.std.proofs.lemmas.Bool.{le-leb}
 use Rattle.std.proofs.Math.ListN.{set}
 use Rattle.std.proofs.lemmas.List.{drop-drop, drop_at, length-append, length-drop, length-map}
 use Rattle.std.proofs.lemmas.List.{length-take-le, map-append, set_split, take_at, take_more}
@@ -45,19 +44,10 @@ module _ {X Y : Type 0} (f : X → Y) where
       (written_next (take i xs) (get_or xs i d) old buffer i
       (sym (length-take-le i xs (omega (arith, below)))) (omega (arith, below, fits)) is)
 
--- Two buffers that are filled if both have room.
-
-module _ {S T : Type 0} (items old : List S) (others other_old : List T) where
-  pub FillsBoth-room : length items ≤ length old → length others ≤ length other_old
-      → FillsBoth items old (items ++ drop (length items) old) others other_old
-      (others ++ drop (length others) other_old)
-  FillsBoth-room fits other_fits = rw (le-leb _ _ fits, le-leb _ _ other_fits) (refl, refl)
-
-  pub FillsBoth-none : (length old < length items) ⊎ (length other_old < length others)
-      → FillsBoth items old old others other_old other_old
-  FillsBoth-none (inl short) = rw (lt-leb _ _ short) (refl, refl)
-  FillsBoth-none (inr short) =
-      elim (cases_lt (length old) (length items)) [
-        | inl less ↦ rw (lt-leb _ _ less) (refl, refl)
-        | inr fits ↦ rw (le-leb _ _ fits, lt-leb _ _ short) (refl, refl)
-      ]
+-- two buffers that both have room
+pub FillsBoth-room : {S T : Type 0} (items old : List S) (others other_old : List T)
+    → length items ≤ length old → length others ≤ length other_old
+    → FillsBoth items old (items ++ drop (length items) old) others other_old
+    (others ++ drop (length others) other_old)
+FillsBoth-room items old others other_old fits other_fits =
+    rw (le-leb _ _ fits, le-leb _ _ other_fits) (refl, refl)

@@ -20,12 +20,7 @@ step_back step = if step.kind == 0 then Literal false else (if step.kind == 1 th
     else (if step.kind == 4 then All step.count else Any step.count))))
 
 step_back-c_step : (step : Step) → step_back (c_step step) ≡ step
-step_back-c_step (Literal false) = refl
-step_back-c_step (Literal true) = refl
-step_back-c_step Ask = refl
-step_back-c_step Not = refl
-step_back-c_step (All n) = refl
-step_back-c_step (Any n) = refl
+step_back-c_step step = grind arith
 
 all_back : (steps : List Step) → map step_back (map c_step steps) ≡ steps
 all_back [] = refl

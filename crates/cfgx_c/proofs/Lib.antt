@@ -4,6 +4,5 @@ pub mod CSteps
 pub mod Described
 pub mod EndsLemmas
 pub mod RefusalLemmas
-pub mod SpanLemmas
 pub mod TokenLemmas
 pub mod Utf8Lemmas

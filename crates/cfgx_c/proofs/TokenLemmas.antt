@@ -1,6 +1,6 @@
 -- Tokens that a lexer yields, and how they end.
-use Rattle.std.proofs.Common.{◌≡◌, ◌∙◌, ◌≤◌, ℕ, List, [], ◌∷◌, ◌++◌, Some, None, ap, append-nil}
-use Rattle.std.proofs.Common.{append_assoc, drop, length, map, refl, sym}
+use Rattle.std.proofs.Common.{◌≡◌, ◌∙◌, ◌≤◌, ℕ, List, [], ◌∷◌, ◌++◌, Option, Some, None, ap}
+use Rattle.std.proofs.Common.{append-nil, append_assoc, drop, length, map, option_map, refl, sym}
 use Rattle.std.proofs.lemmas.List.{map-append}
 use Rattle.std.specs.{List.AllZip, declared.alloc.Global.Global}
 use Rattle.cfgx_syntax.specs.{Error.TextFault, Stripping.strip, Stripping.strip_offset}
@@ -10,11 +10,10 @@ use Rattle.cfgx_syntax.specs.{LexerState.LexerState, LexerState.starting}
 use Rattle.cfgx_syntax.specs.declared.error.Failure.TheVariants as failure
 use Rattle.cfgx_syntax.specs.declared.error.ParseError.{ParseError}
 use Rattle.cfgx_syntax.specs.declared.lexer.LexerToken.{LexerToken}
-use Rattle.cfgx_c.specs.{Buffer.Fills, Faults.c_fault, Faults.no_fault}
-use Rattle.cfgx_c.specs.Status.{done, faulty}
-use Rattle.cfgx_c.specs.Tokens.{ListsTokens, Shows, c_token}
-use Rattle.cfgx_c.specs.declared.tokens.CfgxToken.{CfgxToken}
-use Rattle.cfgx_c.specs.internal.Lexing.{HasTokens, fault_at}
+use Rattle.cfgx_c.specs.Buffer.{Fills}
+use Rattle.cfgx_c.specs.Tokens.{ListsTokens, Shows, TellsLexical, c_token}
+use Rattle.cfgx_c.specs.declared.{fault.CfgxFault.CfgxFault, tokens.CfgxToken.CfgxToken}
+use Rattle.cfgx_c.specs.internal.{Lexing.HasTokens, Refusals.fault_at}
 use Rattle.cfgx_c.proofs.Described.{part_of_stripped}
 
 -- the lexer of the text has come to this place, behind the items that the tokens show
@@ -89,33 +88,22 @@ shown_each text from [] ending come = tt
 shown_each text from (item ∷ items) ending (stands, more) = (
   record {
     kind = refl;
-    spelled = rw (part_of_stripped text item.start item.end stands.ordered stands.inside)
+    spelled = rw (part_of_stripped text item.start item.end stands.inside)
         at stands.spelled;
   },
   shown_each text item.end items ending more,
 )
 
--- What the call says of the tokens.
-
-module _ (text : List ℕ) (tokens old new : List CfgxToken) (needed : ℕ)
-    (fills : Fills tokens old new needed) where
-  pub ListsTokens-done : HasTokens text tokens None → ListsTokens text done old new needed no_fault
-  ListsTokens-done has = record {
-    items = has.items;
-    ending = has.ending;
-    are_items = has.are_items;
-    each = shown_each text 0 has.items has.ending has.are_items;
-    fills = rw has.shown at fills;
-    tells = rw has.ends (refl, refl);
-  }
-
-  pub ListsTokens-faulty : (error : ParseError Global) → HasTokens text tokens (Some error)
-      → ListsTokens text faulty old new needed (c_fault 0 (strip_offset text) (fault_at error))
-  ListsTokens-faulty error has = record {
-    items = has.items;
-    ending = has.ending;
-    are_items = has.are_items;
-    each = shown_each text 0 has.items has.ending has.are_items;
-    fills = rw has.shown at fills;
-    tells = rw has.ends (refl, refl);
-  }
+-- what the call says of the tokens, and of how they end
+pub ListsTokens-read : (text : List ℕ) (tokens old new : List CfgxToken) (needed status : ℕ)
+    (fault : CfgxFault) (error : Option (ParseError Global)) → Fills tokens old new needed
+    → HasTokens text tokens error → TellsLexical text (option_map fault_at error) status fault
+    → ListsTokens text status old new needed fault
+ListsTokens-read text tokens old new needed status fault error fills has tells = record {
+  items = has.items;
+  ending = has.ending;
+  are_items = has.are_items;
+  each = shown_each text 0 has.items has.ending has.are_items;
+  fills = rw has.shown at fills;
+  tells = rw has.ends tells;
+}

@@ -1,10 +1,9 @@
 -- The longest front of bytes that is UTF-8, and the parts that end in it or behind it.
-use Rattle.std.proofs.Common.{◌≡◌, ◌∙◌, ◌-◌, ◌+◌, ◌<◌, ◌≤◌, ℕ, zero, suc, Bool, List, ap}
-use Rattle.std.proofs.Common.{arith, cond, drop, false, inl, inr, length, length-drop, length-take}
-use Rattle.std.proofs.Common.{sym}
-use Rattle.std.proofs.Common.{take, true}
-use Rattle.std.proofs.lemmas.Bool.{cases_lt}
-use Rattle.std.proofs.lemmas.List.{drop-take, take-take, take_all}
+use Rattle.std.proofs.Common.{◌≡◌, ◌∙◌, ◌-◌, ◌+◌, ◌<◌, ◌≤◌, ℕ, zero, suc, List, ap, arith}
+use Rattle.std.proofs.Common.{drop, inl, inr, length, length-drop, length-take, sym, take}
+use Rattle.std.proofs.lemmas.Bool.{cases_lt, cond_both}
+use Rattle.std.proofs.lemmas.List.{take-take, take_all}
+use Rattle.std.proofs.lemmas.Slice.{between_is}
 use Rattle.std.proofs.lemmas.Str.{IsCharBoundary-from_take, IsUtf8-append, IsUtf8-between}
 use Rattle.std.proofs.lemmas.Str.{IsUtf8-take, is_utf8-from_IsUtf8, utf8_valid_len_le}
 use Rattle.std.proofs.Math.Seq.{take-add}
@@ -14,22 +13,16 @@ use Rattle.std.specs.Str.Lossy.{utf8_valid_len, valid_len_up_to}
 
 -- no longer front is UTF-8
 
-longer : (bytes : List ℕ) (n m : ℕ) (b : Bool) → is_utf8 (take (suc m) bytes) ≡ b → n ≤ suc m
-    → IsUtf8 (take n bytes) → (n ≤ m → n ≤ valid_len_up_to bytes m)
-    → n ≤ cond b (suc m) (valid_len_up_to bytes m)
-longer bytes n m true is within utf8 rest = within
-longer bytes n m false is within utf8 rest =
-    elim (cases_lt m n) [
-      | inl above ↦ let same : n ≡ suc m = omega arith in
-          absurd (cc (is_utf8-from_IsUtf8 (take (suc m) bytes) (rw same at utf8), is))
-      | inr below ↦ rest below
-    ]
-
 longest_up_to : (bytes : List ℕ) (n m : ℕ) → n ≤ m → IsUtf8 (take n bytes)
     → n ≤ valid_len_up_to bytes m
 longest_up_to bytes n zero within utf8 = omega arith
-longest_up_to bytes n (suc m) within utf8 = longer bytes n m _ (λ i. is_utf8 (take (suc m) bytes))
-    within utf8 (λ below. longest_up_to bytes n m below utf8)
+longest_up_to bytes n (suc m) within utf8 =
+    cond_both (is_utf8 (take (suc m) bytes)) (suc m) (valid_len_up_to bytes m) (λ k. n ≤ k)
+    (λ is. within) (λ is. elim (cases_lt m n) [
+      | inl above ↦ let same : n ≡ suc m = omega arith in
+          absurd (cc (is_utf8-from_IsUtf8 (take (suc m) bytes) (rw same at utf8), is))
+      | inr below ↦ longest_up_to bytes n m below utf8
+    ])
 
 longest : (bytes : List ℕ) (n : ℕ) → n ≤ length bytes → IsUtf8 (take n bytes)
     → n ≤ utf8_valid_len bytes
@@ -45,14 +38,11 @@ module _ (bytes front : List ℕ) (is : front ≡ take (utf8_valid_len bytes) by
       ap (take n) is ∙ take-take n (utf8_valid_len bytes) bytes few
 
   -- a part that lies in the front
-  pub same_part : (begin end : ℕ) → begin ≤ end → end ≤ length front
+  pub same_part : (begin end : ℕ) → end ≤ length front
       → slice_range front begin end ≡ slice_range bytes begin end
-  same_part begin end rises within =
-      let sum : begin + (end - begin) ≡ end = omega arith in
-      sym (drop-take begin (end - begin) front)
-      ∙ ap (λ n. drop begin (take n front)) sum
-      ∙ ap (drop begin) (same_take end within)
-      ∙ ap (λ n. drop begin (take n bytes)) (sym sum) ∙ drop-take begin (end - begin) bytes
+  same_part begin end within =
+      between_is front begin end ∙ ap (drop begin) (same_take end within)
+      ∙ sym (between_is bytes begin end)
 
   module _ (begin end last : ℕ) (rises : begin ≤ end) (within : end ≤ length bytes)
       (begins : IsCharBoundary front begin) (cut : ¬ IsCharBoundary front end) (below : last ≤ end)
@@ -93,7 +83,7 @@ module _ (bytes front : List ℕ) (is : front ≡ take (utf8_valid_len bytes) by
         record {
           short = omega (arith, short, behind, length-take {A = ℕ}, length-drop {A = ℕ});
           front = rw (take-take (last - begin) (end - begin) rest (omega (arith, below)))
-              (rw (same_part begin last behind stands.0)
+              (rw (same_part begin last stands.0)
               at (IsUtf8-between front begin last utf8 behind begins stands));
           longest = λ m more good. elim (cases_lt m (end - begin)) [
             | inl less ↦ no_more m more (omega (arith, less))

@@ -2,4 +2,3 @@
 pub mod Applying
 pub mod Lexing
 pub mod Refusals
-pub mod Spans

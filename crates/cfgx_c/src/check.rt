@@ -17,7 +17,7 @@ use std::alloc::Global;
 /// The error is about the text, or memory was refused.
 fn check(alloc: Global, text: &[u8]) -> Result<(), Refusal>
     ensures ok { OnOk result (IsCondition text.now) }
-    ensures err { IfErr result (RefusesText text.now) }
+    ensures err { IfErr result (RefusesText text.now not_utf8) }
 {
     let mut reader = ConditionReader::new(alloc);
     read_condition(&mut reader, read_text(text)?)?;

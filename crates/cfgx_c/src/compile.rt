@@ -27,7 +27,7 @@ fn compile(
 ) -> Result<(usize, usize), Refusal>
     ensures ok { IfOk result (λ needed. IsUtf8 text.now × Compiles text.now steps.old steps.new
         needed.0 predicates.old predicates.new needed.1) }
-    ensures err { IfErr result (RefusesText text.now) }
+    ensures err { IfErr result (RefusesText text.now not_utf8) }
     ensures kept { OnErr result ((steps.new ≡ steps.old) × (predicates.new ≡ predicates.old)) }
 {
     // The reader stands in front of what can fail, or its room would be cleared once more.

@@ -1,9 +1,8 @@
 //! Faults as C sees them, and why a call has no result.
 
 ghost use Rattle.std.specs.Prelude.{◌≡◌, ◌<◌, ◌+◌, ◌^◌};
-ghost use Rattle.cfgx_syntax.specs.Error.{cause_of};
 ghost use Rattle.cfgx_c.specs.Faults.{c_fault, utf8_fault};
-ghost use Rattle.cfgx_c.specs.internal.Refusals.{plain};
+ghost use Rattle.cfgx_c.specs.internal.Refusals.{fault_at, plain};
 
 use crate::status::OUT_OF_MEMORY;
 use cfg_expr::error::ParseError;
@@ -48,11 +47,7 @@ impl CfgxFault {
     /// Returns the fault of the item with this number as C sees it. `offset` bytes stand before the
     /// stripped text.
     pub(crate) fn of(item: usize, offset: usize, error: &ParseError) -> CfgxFault
-        ensures { result ≡ c_fault item offset (record {
-          cause = cause_of error.now.reason;
-          start = error.now.span.start;
-          end = error.now.span.end;
-        }) }
+        ensures { result ≡ c_fault item offset (fault_at error.now) }
     {
         CfgxFault {
             item,

@@ -4,14 +4,14 @@ ghost use Rattle.std.specs.Prelude.{◌≡◌, ◌≢◌, ◌≤◌, ◌<◌, �
 ghost use Rattle.std.specs.Prelude.{◌∷◌, IfErr, IfOk, OnErr, drop, length, map};
 ghost use Rattle.std.specs.Str.{IsUtf8};
 ghost use Rattle.cfgx_syntax.specs.Stripping.{strip, strip_offset};
-ghost use Rattle.cfg_expr.specs.Located.{AreLocated, CanBeCut};
+ghost use Rattle.cfgx_grammar.specs.Question.{Question};
+ghost use Rattle.cfg_expr.specs.Located.{AreLocated, CanBeCut, Locates};
 ghost use Rattle.cfgx_c.specs.Buffer.{Fills};
 ghost use Rattle.cfgx_c.specs.Faults.{Tells};
 ghost use Rattle.cfgx_c.specs.Predicates.{ListsPredicates, c_predicate, moved, moved_or_none};
 ghost use Rattle.cfgx_c.specs.Status.{done, not_utf8, wrong_use};
 ghost use Rattle.cfgx_c.specs.declared.predicates.CfgxPredicate.{CfgxPredicate};
 ghost use Rattle.cfgx_c.specs.internal.Refusals.{RefusesText};
-ghost use Rattle.cfgx_c.specs.internal.Spans.{HasSpans};
 
 use crate::fault::{CfgxFault, Refusal};
 use crate::reading::{read_condition, read_text};
@@ -68,7 +68,8 @@ fn moved_or_none(span: Option<Span>, offset: usize) -> Span
 
 /// Returns a predicate as C sees it. `offset` bytes were stripped before the text.
 fn c_predicate(predicate: LocatedPredicate, offset: usize) -> CfgxPredicate
-    requires { (text : List ℕ) × HasSpans text predicate × (length text + offset < 2 ^ 64) }
+    requires { (text : List ℕ) × (question : Question) × Locates text question predicate
+        × (length text + offset < 2 ^ 64) }
     ensures { result ≡ c_predicate offset predicate }
 {
     let whole = moved(predicate.span, offset);
@@ -115,7 +116,7 @@ fn fill_predicates(
 ) -> Result<usize, Refusal>
     ensures ok { IfOk result (λ needed. IsUtf8 text.now × (list : List CfgxPredicate)
         × ListsPredicates text.now list × Fills list buffer.old buffer.new needed) }
-    ensures err { IfErr result (RefusesText text.now) }
+    ensures err { IfErr result (RefusesText text.now not_utf8) }
     ensures kept { OnErr result (buffer.new ≡ buffer.old) }
 {
     // The reader stands in front of what can fail, or its room would be cleared once more.

@@ -9,10 +9,10 @@ ghost use Rattle.cfg_expr.specs.Given.{AreAnswersTo};
 ghost use Rattle.cfgx_engine.specs.Facts.{IsRustcFact, NameAlike, texts_of};
 ghost use Rattle.cfgx_c.specs.Ends.{AreEnds, parts};
 ghost use Rattle.cfgx_c.specs.Faults.{HasFactFault, fact_offset};
-ghost use Rattle.cfgx_c.specs.Status.{faulty_fact, not_utf8};
-ghost use Rattle.cfgx_c.specs.internal.Refusals.{FactStands, IsAbout, IsFirstFrom, IsThatOfFirst};
-ghost use Rattle.cfgx_c.specs.internal.Refusals.{RefusesFor, RefusesText, fact_refusal};
-ghost use Rattle.cfgx_c.specs.internal.Refusals.{text_refusal, views};
+ghost use Rattle.cfgx_c.specs.Status.{faulty_fact, miscounted, not_utf8};
+ghost use Rattle.cfgx_c.specs.Value.{HasOtherCount};
+ghost use Rattle.cfgx_c.specs.internal.Refusals.{IsAbout, IsFirstFrom};
+ghost use Rattle.cfgx_c.specs.internal.Refusals.{RefusesText, text_refusal, views};
 
 use crate::fault::{CfgxFault, Refusal};
 use crate::status::{FAULTY, FAULTY_FACT, MISCOUNTED, NOT_UTF8, OUT_OF_MEMORY};
@@ -27,7 +27,7 @@ use std::alloc::Global;
 /// The error is about the text.
 pub(crate) fn read_text(text: &[u8]) -> Result<&str, Refusal>
     ensures ok { IfOk result (λ read. (read.now ≡ text.now) × IsUtf8 text.now) }
-    ensures err { IfErr result (RefusesText text.now) }
+    ensures err { IfErr result (RefusesText text.now not_utf8) }
     ensures status { IfErr result (λ refusal. refusal.status ≡ not_utf8) }
 {
     match str::from_utf8(text) {
@@ -63,7 +63,7 @@ pub(crate) fn read_condition<'r, 'a>(
 ) -> Result<Condition<'r>, Refusal>
     ensures ok { IfOk result (λ condition. (condition ≡ strip text.now)
         × HasOneTree (strip text.now)) }
-    ensures err { IfErr result (RefusesText text.now) }
+    ensures err { IfErr result (RefusesText text.now not_utf8) }
 {
     match reader.read(text) {
         Ok(condition) => Ok(condition),
@@ -81,7 +81,9 @@ pub(crate) fn read_answered<'r, 'a>(
 ) -> Result<Condition<'r>, Refusal>
     ensures ok { IfOk result (λ condition. (condition ≡ strip text.now) × IsUtf8 text.now) }
     ensures counted { IfOk result (AreAnswersTo answers.now) }
-    ensures err { IfErr result (RefusesFor text.now answers.now) }
+    ensures err { IfErr result (RefusesText text.now miscounted) }
+    ensures other_count { IfErr result (λ refusal. refusal.status ≡ miscounted
+        → HasOtherCount (strip text.now) answers.now) }
 {
     let condition = read_condition(reader, read_text(text)?)?;
     if condition.predicates().left() != answers.len() {
@@ -100,20 +102,6 @@ fn fact_offset(fact: &str) -> usize
     }
 }
 
-/// Returns why these facts, whose numbers begin at `begin`, cannot be read.
-fn fact_refusal(begin: usize, facts: &[&str], error: FactsError) -> Refusal
-    requires { FactStands begin (views facts.now) error }
-    ensures { result ≡ fact_refusal begin (views facts.now) error }
-{
-    match error {
-        FactsError::Faulty { index, error } => Refusal {
-            status: FAULTY_FACT,
-            fault: CfgxFault::of(begin + index, fact_offset(facts[index]), &error),
-        },
-        FactsError::Memory(_) => Refusal::plain(OUT_OF_MEMORY),
-    }
-}
-
 /// Reads the facts of a target, whose numbers begin at `begin`.
 ///
 /// The error is about the first faulty fact, or memory was refused.
@@ -126,7 +114,11 @@ pub(crate) fn read_facts(alloc: Global, begin: usize, facts: &[&str]) -> Result<
 {
     match Facts::from_rustc(alloc, facts) {
         Ok(read) => Ok(read),
-        Err(error) => Err(fact_refusal(begin, facts, error)),
+        Err(FactsError::Faulty { index, error }) => Err(Refusal {
+            status: FAULTY_FACT,
+            fault: CfgxFault::of(begin + index, fact_offset(facts[index]), &error),
+        }),
+        Err(FactsError::Memory(_)) => Err(Refusal::plain(OUT_OF_MEMORY)),
     }
 }
 
@@ -144,7 +136,7 @@ pub(crate) fn read_targets(
         × AllZip (λ facts read. NameAlike read (texts_of facts))
         (parts target_ends.now (views facts.now)) targets.items) }
     ensures err { IfErr result
-        (IsAbout faulty_fact (IsThatOfFirst IsRustcFact HasFactFault (views facts.now))) }
+        (IsAbout faulty_fact (IsFirstFrom 0 IsRustcFact HasFactFault (views facts.now))) }
 {
     let mut targets = Vec::with_capacity(alloc, target_ends.len())?;
     let mut begin = 0;

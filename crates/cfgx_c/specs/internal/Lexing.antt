@@ -1,20 +1,12 @@
 -- The tokens that a lexer yields.
 use Rattle.std.specs.Prelude.{◌≡◌, ℕ, List, Option, map, option_map}
 use Rattle.std.specs.declared.alloc.Global.{Global}
-use Rattle.cfgx_syntax.specs.Error.{Fault, cause_of}
 use Rattle.cfgx_syntax.specs.Items.{AreItems, Ending, Item, lexical}
 use Rattle.cfgx_syntax.specs.Stripping.{strip, strip_offset}
 use Rattle.cfgx_syntax.specs.declared.error.ParseError.{ParseError}
 use Rattle.cfgx_c.specs.Tokens.{c_token}
 use Rattle.cfgx_c.specs.declared.tokens.CfgxToken.{CfgxToken}
-
--- the fault of an error
-abbrev pub fault_at : ParseError Global → Fault
-fault_at error = record {
-  cause = cause_of error.reason;
-  start = error.span.start;
-  end = error.span.end;
-}
+use Rattle.cfgx_c.specs.internal.Refusals.{fault_at}
 
 -- the tokens are those of the stripped text, and the error is the fault at which they end
 pub record HasTokens (text : List ℕ) (tokens : List CfgxToken) (error : Option (ParseError Global))

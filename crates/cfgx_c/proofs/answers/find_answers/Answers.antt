@@ -1,10 +1,8 @@
 -- The facts are read first, and then the text.
 use Rattle.std.proofs.lemmas.Result.{err_from_is_err_and}
 use Rattle.cfgx_c.specs.Ends.{parts}
-use Rattle.cfgx_c.specs.Status.{faulty_fact}
 use Rattle.cfgx_c.proofs.AnswerLemmas.{AnswersBy-read}
-use Rattle.cfgx_c.proofs.RefusalLemmas.{IsAbout-weaker, IsFirst-all, Refuses-read, Refuses-text}
-use Rattle.cfgx_c.proofs.RefusalLemmas.{all_facts}
+use Rattle.cfgx_c.proofs.RefusalLemmas.{Refuses-read, Refuses-text, all_facts}
 use Rattle.cfgx_c.proofs.answers.find_answers.Goals as goal
 
 -- a fact is faulty
@@ -14,8 +12,7 @@ returns-in_err-facts-2-clause-err c =
     c.from_residual-in_err-facts-2.result c.from_residual-in_err-facts-2.ensures.1 in
     let facts = c.in_ok-facts.ensures.ok in
     let about = rw (c.as_slice.ensures.value, facts.0) at c.in_err-facts-2.ensures.err in
-    rw (p.1, p.2) (Refuses-read _ _ _ facts.1
-    (IsAbout-weaker faulty_fact _ _ _ (IsFirst-all _) about))
+    rw (p.1, p.2) (Refuses-read _ _ _ facts.1 about)
 
 -- the text is not UTF-8
 pub returns-in_err-read_text-clause-err : goal.returns-in_err-read_text-clause-err

@@ -1,11 +1,12 @@
 -- The steps and the predicates are those of the text's one tree.
-use Rattle.std.proofs.Common.{◌≡◌, ◌∙◌, ap, arith, inl, inr, length, map, sym}
+use Rattle.std.proofs.Common.{◌≡◌, ◌∙◌, ap, arith, length, map, sym}
+use Rattle.std.proofs.lemmas.Grind.{common_steps}
 use Rattle.std.proofs.lemmas.List.{length-map}
 use Rattle.cfgx_grammar.proofs.Answering.{only_tree}
 use Rattle.cfgx_syntax.specs.Stripping.{strip_offset}
 use Rattle.cfg_expr.specs.Steps.{steps_of}
 use Rattle.cfgx_c.specs.{Predicates.c_predicate, Steps.c_step}
-use Rattle.cfgx_c.proofs.BufferLemmas.{FillsBoth-none, FillsBoth-room}
+use Rattle.cfgx_c.proofs.BufferLemmas.{FillsBoth-room}
 use Rattle.cfgx_c.proofs.Described.{ListsPredicates-located}
 use Rattle.cfgx_c.proofs.compile.compile.Goals as goal
 
@@ -32,11 +33,7 @@ returns-then-step_count-steps-clause-ok c =
         one = counted.0;
         predicates = map show predicates;
         lists = ListsPredicates-located c.args.text.now predicates located;
-        fills = FillsBoth-none steps c.args.steps.now (map show predicates)
-            c.args.predicates.now (elim c.then-step_count-steps.either [
-              | inl short ↦ inl (omega (arith, short, many))
-              | inr short ↦ inr (omega (arith, short, count))
-            ]);
+        fills = let either = c.then-step_count-steps.either in grind (arith, common_steps);
         steps_needed_is = counted.1;
         predicates_needed_is = count;
       },

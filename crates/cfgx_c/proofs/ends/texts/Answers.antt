@@ -28,7 +28,7 @@ loop-end-preserved c =
     let cut = (rw c.if-not-is_char_boundary.false at c.is_char_boundary.ensures.test).0 refl in
     let part = c.range.ensures.value ∙ same_part c.args.bytes.now c.utf8_front-front.result.now
     c.utf8_front-front.ensures.front c.utf8_front-front.ensures.utf8 c.loop-end.begin
-    (get_or c.args.ends.now c.loop-end.end-index 0) next.0 cut.0 in
+    (get_or c.args.ends.now c.loop-end.end-index 0) cut.0 in
     record {
       left_are = next.1;
       whole = rw (c.in_ok-push.ensures.items, map-append, append_assoc, part)

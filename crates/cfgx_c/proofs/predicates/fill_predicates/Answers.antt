@@ -1,7 +1,6 @@
 -- The predicates are those of the text's one tree, with spans in the stripped text.
-use Rattle.std.proofs.Common.{◌∙◌, map, refl, sym}
-use Rattle.std.proofs.lemmas.Bool.{le-leb, lt-leb}
-use Rattle.std.proofs.lemmas.List.{length-map}
+use Rattle.std.proofs.Common.{arith, map}
+use Rattle.std.proofs.lemmas.Grind.{common_steps}
 use Rattle.cfgx_syntax.specs.Stripping.{strip_offset}
 use Rattle.cfgx_c.specs.Predicates.{c_predicate}
 use Rattle.cfgx_c.proofs.Described.{ListsPredicates-located}
@@ -22,10 +21,7 @@ returns-then-needed-buffer-clause-ok c =
       text.1,
       map show predicates,
       ListsPredicates-located c.args.text.now predicates located,
-      (
-        c.left-needed.ensures ∙ sym (length-map predicates show),
-        rw (lt-leb _ _ c.if-needed-buffer.true) refl,
-      ),
+      grind (arith, common_steps),
     )
 
 -- there is room
@@ -40,8 +36,5 @@ returns-clause-ok c =
       text.1,
       map show predicates,
       ListsPredicates-located c.args.text.now predicates located,
-      (
-        c.left-needed.ensures ∙ sym (length-map predicates show),
-        rw (le-leb _ _ c.if-needed-buffer.false) wrote,
-      ),
+      grind (arith, common_steps),
     )

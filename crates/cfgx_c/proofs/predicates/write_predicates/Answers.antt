@@ -6,14 +6,15 @@ use Rattle.std.proofs.lemmas.List.{length-append}
 use Rattle.cfgx_syntax.specs.Stripping.{strip}
 use Rattle.cfgx_c.specs.Predicates.{c_predicate}
 use Rattle.cfgx_c.proofs.BufferLemmas.{written_next}
-use Rattle.cfgx_c.proofs.SpanLemmas.{all_spans}
+use Rattle.cfgx_c.proofs.Described.{located_each}
 use Rattle.cfgx_c.proofs.predicates.write_predicates.Goals as goal
 
 pub c_predicate-requires : goal.c_predicate-requires
 c_predicate-requires c =
-    let spans = rw c.in-Some.ensures.steps at c.loop-predicate.invariant.spans in (
+    let located = rw c.in-Some.ensures.steps at c.loop-predicate.invariant.located in (
       strip c.args.text.now,
-      spans.0,
+      located.0.0,
+      located.0.1,
       omega (arith, ap length c.strip-offset.ensures.text, c.strip-offset.ensures.stands.1),
     )
 
@@ -23,15 +24,15 @@ loop-predicate-init c = record {
   whole = refl;
   count = refl;
   shown = refl;
-  spans = rw c.into_iter-predicate-iterator.ensures.into_iter_gives
-      (all_spans (strip c.args.text.now) c.args.predicates c.requires.located);
+  located = rw c.into_iter-predicate-iterator.ensures.into_iter_gives
+      (located_each (strip c.args.text.now) _ c.args.predicates c.requires.located.each);
 }
 
 pub loop-predicate-preserved : goal.loop-predicate-preserved
 loop-predicate-preserved c =
     let so_far = c.loop-predicate.invariant in
     let offset = c.strip-offset.result.offset in
-    let spans = rw c.in-Some.ensures.steps at so_far.spans in
+    let located = rw c.in-Some.ensures.steps at so_far.located in
     let whole = rw c.in-Some.ensures.steps at so_far.whole in
     let long = ap length whole in
     let inside : c.loop-predicate.written < length c.args.buffer.now = omega (
@@ -49,7 +50,7 @@ loop-predicate-preserved c =
       shown = rw c.c_predicate.ensures (written_next (c_predicate offset) so_far.front
           c.in-Some.predicate c.args.buffer.now c.loop-predicate.buffer c.loop-predicate.written
           so_far.count inside so_far.shown);
-      spans = spans.1;
+      located = located.1;
     }
 
 pub returns : goal.returns

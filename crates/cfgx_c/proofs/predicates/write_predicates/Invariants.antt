@@ -1,11 +1,12 @@
--- The predicates so far were written, and those that are left lie in the text.
+-- The predicates so far were written, and those that are left have spans in the text.
 use Rattle.std.proofs.Common.{◌≡◌, ◌++◌, ℕ, List, drop, length, map}
 use Rattle.std.specs.List.{AllByRecursion}
+use Rattle.cfgx_grammar.specs.Question.{Question}
 use Rattle.cfgx_syntax.specs.Stripping.{strip}
+use Rattle.cfg_expr.specs.Located.{Locates}
 use Rattle.cfg_expr.specs.declared.expr.located.LocatedPredicate.{LocatedPredicate}
 use Rattle.cfgx_c.specs.Predicates.{c_predicate}
 use Rattle.cfgx_c.specs.declared.predicates.CfgxPredicate.{CfgxPredicate}
-use Rattle.cfgx_c.specs.internal.Spans.{HasSpans}
 use Rattle.cfgx_c.proofs.predicates.write_predicates.Given as goal
 
 pub record Invariant (text : List ℕ) (all left : List LocatedPredicate) (offset written : ℕ)
@@ -14,7 +15,7 @@ pub record Invariant (text : List ℕ) (all left : List LocatedPredicate) (offse
   pub whole : front ++ left ≡ all
   pub count : written ≡ length front
   pub shown : buffer ≡ map (c_predicate offset) front ++ drop written old
-  pub spans : AllByRecursion (HasSpans (strip text)) left
+  pub located : AllByRecursion (λ p. (question : Question) × Locates (strip text) question p) left
 
 abbrev pub invariant-loop-predicate : goal.invariant-loop-predicate
 invariant-loop-predicate l = Invariant l.text l.initial.predicate-iterator l.predicate-iterator

@@ -34,8 +34,7 @@ returns-in_err-read-clause-err c =
     c.from_residual-in_err-read.result c.from_residual-in_err-read.ensures.1 in
     let invariant = c.loop-end.invariant in
     let next = next_end _ _ _ _ c.loop-end-test.true invariant.left_are in
-    let end = begin-le _ _ _ next.1 in
-    rw (p.1, p.2) (IsAbout-piece (views c.args.facts.now) c.loop-end.begin _ _ next.0 end
+    rw (p.1, p.2) (IsAbout-piece (views c.args.facts.now) c.loop-end.begin _ _ next.0
     invariant.good (rw views-range at c.in_err-read.ensures.err))
 
 -- the facts of one target more
@@ -49,7 +48,7 @@ loop-end-preserved c =
     let read = rw views-range at c.in_ok-read.ensures.ok in
     record {
       left_are = next.1;
-      good = rw (take-range facts begin end next.0 (begin-le _ _ _ next.1))
+      good = rw (take-range facts begin end next.0)
           (All-append IsRustcFact (take begin facts) (slice_range facts begin end) invariant.good
           read.0);
       groups = invariant.groups ++ slice_range facts begin end ∷ [];

@@ -17,4 +17,4 @@ returns-clause-done c is =
 
 pub returns-in-Err-clause-miscounted : goal.returns-in-Err-clause-miscounted
 returns-in-Err-clause-miscounted c is =
-    c.in-Err.ensures.err.other_count (sym c.report.ensures.status ∙ is)
+    c.in-Err.ensures.other_count (sym c.report.ensures.status ∙ is)
