@@ -146,8 +146,8 @@ impl<A: SmallAllocator> Decider<A> {
     }
 
     /// Asks `matcher` the predicates of a condition, and decides the condition over its answers as
-    /// `Expression::decide` does. The matcher is asked once for each predicate on the target, in
-    /// order. Every other predicate is unknown.
+    /// `Expression::decide` does. The matcher is asked once for each predicate on the target. Every
+    /// other predicate is unknown.
     ///
     /// `answers` and `decision` are replaced. Their memory is reused.
     ///
