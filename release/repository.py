@@ -28,7 +28,7 @@ class Commit(NamedTuple):
 
 
 class ToolError(Exception):
-    """A tool is missing, or fails. The message says which."""
+    """A tool or a file of the kit is missing, or a tool fails. The message says which."""
 
 
 def output_of(*words: str) -> str:
@@ -79,10 +79,14 @@ def tracked(*paths: str) -> List[str]:
 
 
 def kit() -> Dict[str, str]:
-    """Returns what `rt version` prints, and what the kit says of its origin, line by line."""
-    page = output_of("rt", "doc").strip()
-    with open(os.path.join(os.path.dirname(page), "WHAT"), encoding="utf-8") as file:
-        told = dict(line.split() for line in file)
+    """Returns what `rt version` prints, and what the kit says of its origin, line by line. Raises
+    `ToolError`."""
+    path = os.path.join(os.path.dirname(output_of("rt", "doc").strip()), "WHAT")
+    try:
+        with open(path, encoding="utf-8") as file:
+            told = dict(line.split() for line in file)
+    except FileNotFoundError as error:
+        raise ToolError(f"the kit has no file {path}") from error
     return {**told, "version": output_of("rt", "version").strip()}
 
 

@@ -56,6 +56,10 @@ class Tools(unittest.TestCase):
             self.write_tools({tool: None})
             self.check_refusal(f"there is no `{tool}` on the path")
 
+    def test_a_kit_that_does_not_say_what_it_is(self):
+        self.write_tools({"rt": f"echo {self.tools}/START-HERE.md"})
+        self.check_refusal(f"the kit has no file {self.tools}/WHAT")
+
     def test_a_tool_that_fails(self):
         for tool, said in FAILING:
             self.write_tools({tool: "exit 3"})
