@@ -93,7 +93,8 @@ uint32_t cfgx_version(void);
 #define CFGX_STATUS_OUT_OF_MEMORY 3 /* memory was refused */
 #define CFGX_STATUS_NOT_UTF8 4      /* a text or a word is not UTF-8 */
 #define CFGX_STATUS_MISCOUNTED 5    /* the numbers of answers and predicates differ */
-#define CFGX_STATUS_BAD_ENDS 6      /* ends decrease, or the last is not the number of items */
+#define CFGX_STATUS_BAD_ENDS 6      /* ends decrease, or the last is not the number of bytes; for
+                                     * the ends of targets, of facts */
 #define CFGX_STATUS_NO_VALUE 7      /* the steps have no value over any answers */
 #define CFGX_STATUS_TOO_LARGE 8     /* the number of values does not fit in a size_t */
 #define CFGX_STATUS_FAULTY_FACT 9   /* a fact is faulty or not UTF-8 */
@@ -121,7 +122,8 @@ uint32_t cfgx_version(void);
 #define CFGX_REASON_UNKNOWN_BUILTIN 12          /* no text has this reason */
 
 /* The lists of expected terms, as messages name them. A list may lack terms that are accepted
- * there, and may have terms that are not. docs/RULES.md says where each list is named. */
+ * there, and may have terms that are not. Those from CFGX_TERMS_OPEN to CFGX_TERMS_CLOSE have the
+ * name of what stands before them. docs/RULES.md says where each list is named. */
 #define CFGX_TERMS_NONE 1            /* no term */
 #define CFGX_TERMS_START 2           /* `<key>` `all` `any` `not` */
 #define CFGX_TERMS_OPEN 3            /* `<key>` `)` `all` `any` `not` */
@@ -149,9 +151,10 @@ struct cfgx_fault {
     size_t offset;
     /* the bytes at fault, from `start` up to but not including `end` in the stripped text, so from
      * `offset + start` up to but not including `offset + end` in the text or the fact. `start` is
-     * `end` if no byte is at fault, as in an empty text. Where no token can start, one byte is at
-     * fault, also of a longer character. If the text or the fact is not UTF-8, this is the byte
-     * with which the first wrong character begins */
+     * `end` if no byte is at fault, as in an empty text. If a parenthesis or a quote is never
+     * closed, all that follows it is at fault too. Where no token can start, one byte is at fault,
+     * also of a longer character. If the text or the fact is not UTF-8, this is the byte with which
+     * the first wrong character begins */
     size_t start;
     size_t end;
     /* the number of members of the `not`, for CFGX_REASON_INVALID_NOT; 0 for every other reason */
@@ -171,10 +174,10 @@ uint32_t cfgx_check(const char *text, size_t text_length, struct cfgx_fault *fau
  * CFGX_STATUS_FAULTY if it is UTF-8 but no condition, and fills `message` with what cfgx prints:
  * the stripped text, a line feed, a space for each byte before the fault, marks, a space and the
  * reason. The marks are one `-` if a parenthesis or a quote is never closed, and otherwise a `^`
- * for each byte at fault. They stand below it if each character before it has one byte and one
- * column. The message ends with neither a line feed nor a zero byte, but has the zero bytes of the
- * text. Otherwise returns CFGX_STATUS_NOT_UTF8 or CFGX_STATUS_OUT_OF_MEMORY. With every status but
- * CFGX_STATUS_FAULTY, `*needed` is 0. */
+ * for each byte at fault, so none if there is none. They stand below it if each character before it
+ * has one byte and one column, and none is a line feed. The message ends with neither a line feed
+ * nor a zero byte, but has the zero bytes of the text. Otherwise returns CFGX_STATUS_NOT_UTF8 or
+ * CFGX_STATUS_OUT_OF_MEMORY. With every status but CFGX_STATUS_FAULTY, `*needed` is 0. */
 CFGX_USE_RESULT
 uint32_t cfgx_explain(const char *text, size_t text_length,
                       char *message, size_t room, size_t *needed, struct cfgx_fault *fault);
@@ -186,7 +189,8 @@ uint32_t cfgx_explain(const char *text, size_t text_length,
 #define CFGX_PREDICATE_DEBUG_ASSERTIONS 4 /* debug_assertions */
 #define CFGX_PREDICATE_PROC_MACRO 5       /* proc_macro */
 #define CFGX_PREDICATE_FEATURE 6          /* feature */
-#define CFGX_PREDICATE_TARGET_FEATURE 7   /* target_feature, which does not test the target */
+#define CFGX_PREDICATE_TARGET_FEATURE 7   /* target_feature, which a build may set: this kind does
+                                           * not test the target */
 #define CFGX_PREDICATE_ABI 8              /* target_abi; the kinds from 8 to 17 test the target */
 #define CFGX_PREDICATE_ARCH 9             /* target_arch */
 #define CFGX_PREDICATE_ENDIAN 10          /* target_endian */
@@ -265,15 +269,15 @@ uint32_t cfgx_decide(const char *text, size_t text_length,
  * predicates in it are true: a fact `all(x, not(y))` makes x and y true. If a fact begins with `?`,
  * the predicates in the rest of it are unknown, except those that another fact makes true. Two
  * predicates are the same if their kinds, keys, values and numbers are: `unix` is the same as
- * `target_family = "unix"`. A predicate that is in no fact is unknown if `otherwise` is not 0 and
- * its kind is less than CFGX_PREDICATE_ABI, which says that it does not test the target. Otherwise
- * it is false.
+ * `target_family = "unix"`. A predicate that is in no fact is false, except that it is unknown if
+ * `otherwise` is not 0 and its kind is less than CFGX_PREDICATE_ABI, which says that it does not
+ * test the target. `otherwise` is a yes or a no, and none of CFGX_VALUE_..
  *
- * Some compilers print facts that no condition can ask, which are passed over. Without a `?` at its
- * start, and stripped, such a fact is a key alone that needs a value, as `feature`, `panic` and
- * each key that begins with `target_` do; or it is a key that begins with `target_` and is not the
- * key of a kind above, with a value. Every other fact that is no condition is faulty. A blank line
- * is, too.
+ * Some compilers print facts that no condition can ask, which are passed over. Take off a `?` at
+ * the start, if there is one, and strip the rest: such a fact is a key alone that needs a value, as
+ * `feature`, `panic` and each key that begins with `target_` do; or it is a key that begins with
+ * `target_` and is not the key of a kind above, with a value. Every other fact that is no condition
+ * is faulty. A blank line is, too.
  *
  * Returns CFGX_STATUS_DONE; CFGX_STATUS_FAULTY_FACT; CFGX_STATUS_NOT_UTF8 or CFGX_STATUS_FAULTY,
  * which are about the text; CFGX_STATUS_OUT_OF_MEMORY; or CFGX_STATUS_BAD_ENDS. */
@@ -316,22 +320,25 @@ uint32_t cfgx_compile(const char *text, size_t text_length,
                       size_t *predicates_needed, struct cfgx_fault *fault);
 
 /* Computes the value of steps over answers, with a stack as `cfgx_compile` describes it. Any steps
- * may be passed, such as those of a damaged file. Returns CFGX_STATUS_DONE, and writes the value to
- * `*value`. Returns CFGX_STATUS_NO_VALUE if a step pops more values than there are, not exactly one
- * value is left at the end, a kind is unknown, or a count is not what `cfgx_step` says. Returns
- * CFGX_STATUS_MISCOUNTED if the steps have a value over more or fewer answers. Otherwise returns
- * CFGX_STATUS_OUT_OF_MEMORY. Up to 33 steps and 33 answers need no memory. */
+ * may be passed, such as those of a damaged file. Two answers are independent, as in `cfgx_value`.
+ * Returns CFGX_STATUS_DONE, and writes the value to `*value`. Returns CFGX_STATUS_NO_VALUE if a
+ * step pops more values than there are, not exactly one value is left at the end, a kind is
+ * unknown, or a count is not what `cfgx_step` says. Returns CFGX_STATUS_MISCOUNTED if the steps
+ * have a value over more or fewer answers. Otherwise returns CFGX_STATUS_OUT_OF_MEMORY. Up to 33
+ * steps and 33 answers need no memory. */
 CFGX_USE_RESULT
 uint32_t cfgx_apply(const struct cfgx_step *steps, size_t step_count,
                     const uint8_t *answers, size_t answer_count, uint8_t *value);
 
 /* Evaluates many conditions on many targets. Reads each text and each fact once. There are no
- * values if one of them is faulty, so leave faulty texts out, which `cfgx_check` finds.
+ * values if one of them is faulty. So leave out the faulty texts, which `cfgx_check` finds, and the
+ * faulty facts, which `cfgx_answers` finds, for instance with the text `true`.
  *
  * Numbering starts at 0. Target j has the facts from number `target_ends[j - 1]`, or from 0 for the
- * first target, up to but not including `target_ends[j]`, and answers by them as in
- * `cfgx_answers`. Item `i * target_count + j` of `values` becomes the value of condition i on
- * target j, so `*needed` is text_count * target_count.
+ * first target, up to but not including `target_ends[j]`, and answers by these and `otherwise` as
+ * in `cfgx_answers`. Two answers are independent, as in `cfgx_value`. Item `i * target_count + j`
+ * of `values` becomes the value of condition i on target j, so `*needed` is text_count *
+ * target_count.
  *
  * Returns CFGX_STATUS_DONE. Returns CFGX_STATUS_FAULTY_FACT, and tells the fault of the first fact
  * that is not UTF-8, or if all are, of the first faulty one. Facts are counted over all targets.

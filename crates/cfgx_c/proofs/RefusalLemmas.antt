@@ -35,12 +35,8 @@ module _ (Good : List ℕ → Type 0) (Has : List ℕ → CfgxFault → Type 0) 
   pub IsFirst-seam : (front : List (List ℕ)) (item : List ℕ) (after : List (List ℕ))
       (fault : CfgxFault) → All Good front → Has item fault
       → IsFirst Good Has (front ++ item ∷ after) (length front) fault
-  IsFirst-seam front item after fault good has = record {
-    item = item;
-    stands = slice_get-append_seam front item after;
-    before = rw take-append_seam good;
-    has = has;
-  }
+  IsFirst-seam front item after fault good has =
+      grind (arith, common_steps, gets, take-append_seam)
 
   -- that of a piece, behind good items
   pub IsFirst-piece : (items : List (List ℕ)) (begin end index : ℕ) (fault : CfgxFault)
@@ -224,15 +220,3 @@ RefusesText-bytes text refusal is number has =
     let none = All-nil IsFact in
     grind arith
 
-pub RefusesText-failure : {A : Type 0} (text : List ℕ) (failed : Failure A) → IsUtf8 text
-    → Answers {A = A} (strip text) (Err failed)
-    → RefusesText text not_utf8 (text_refusal {A = A} 0 text failed)
-RefusesText-failure text (failure.Memory refused) utf8 answers = grind arith
-RefusesText-failure {A} text (failure.Parse error) utf8 (found, is, reads) =
-    let first = IsFirst-seam (λ text. HasOneTree (strip text)) HasFault [] text []
-    (c_fault 0 (strip_offset text) (fault_at {A = A} error))
-    (All-nil (λ text. HasOneTree (strip text)))
-    (found, reads, ap (c_fault 0 (strip_offset text)) (same_fault {A = A} _ error found is)) in
-    let none = All-nil IsFact in
-    let all = All-cons IsUtf8 text [] utf8 (All-nil IsUtf8) in
-    grind arith
