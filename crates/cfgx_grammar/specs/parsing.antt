@@ -1,3 +1,3 @@
--- The parser as a function over tokens. Internal: no public contract names it.
+-- The parser as a function over tokens. Internal: no public contract of `cfg_expr` names it.
 pub mod State
 pub mod Step

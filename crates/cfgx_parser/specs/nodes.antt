@@ -1,5 +1,5 @@
--- A tree as the list of its nodes, and how it is written. Internal: no public contract of
--- `cfg_expr` cites it.
+-- A tree as the list of its nodes, and how it is written. Internal, but for four words of `Located`
+-- that public contracts of `cfg_expr` cite: `at`, `IsSpan`, `inner_target`, `target_text`.
 pub mod KeepsTree
 pub mod Located
 pub mod Node
