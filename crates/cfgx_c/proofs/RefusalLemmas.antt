@@ -38,7 +38,7 @@ module _ (Good : List ℕ → Type 0) (Has : List ℕ → CfgxFault → Type 0) 
   IsFirst-seam front item after fault good has =
       grind (arith, common_steps, gets, take-append_seam)
 
-  -- that of a piece, behind good items
+  -- the first one of a piece, behind good items
   pub IsFirst-piece : (items : List (List ℕ)) (begin end index : ℕ) (fault : CfgxFault)
       → begin ≤ end → All Good (take begin items)
       → IsFirst Good Has (slice_range items begin end) index fault
@@ -219,4 +219,3 @@ RefusesText-bytes text refusal is number has =
     let first = IsFirst-seam IsUtf8 HasNoUtf8 [] text [] refusal.fault (All-nil IsUtf8) has in
     let none = All-nil IsFact in
     grind arith
-
