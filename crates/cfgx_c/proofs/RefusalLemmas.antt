@@ -219,3 +219,16 @@ RefusesText-bytes text refusal is number has =
     let first = IsFirst-seam IsUtf8 HasNoUtf8 [] text [] refusal.fault (All-nil IsUtf8) has in
     let none = All-nil IsFact in
     grind arith
+
+pub RefusesText-failure : {A : Type 0} (text : List ℕ) (failed : Failure A) → IsUtf8 text
+    → Answers {A = A} (strip text) (Err failed)
+    → RefusesText text not_utf8 (text_refusal {A = A} 0 text failed)
+RefusesText-failure text (failure.Memory refused) utf8 answers = grind arith
+RefusesText-failure {A} text (failure.Parse error) utf8 (found, is, reads) =
+    let first = IsFirst-seam (λ text. HasOneTree (strip text)) HasFault [] text []
+    (c_fault 0 (strip_offset text) (fault_at {A = A} error))
+    (All-nil (λ text. HasOneTree (strip text)))
+    (found, reads, ap (c_fault 0 (strip_offset text)) (same_fault {A = A} _ error found is)) in
+    let none = All-nil IsFact in
+    let all = All-cons IsUtf8 text [] utf8 (All-nil IsUtf8) in
+    grind arith

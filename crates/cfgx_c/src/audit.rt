@@ -7,31 +7,16 @@ ghost use Rattle.cfgx_c.specs.Ends.{parts};
 ghost use Rattle.cfgx_c.specs.Faults.{IsCondition, IsFact, Tells};
 ghost use Rattle.cfgx_c.specs.Status.{bad_ends, done, faulty_fact, miscounted, no_value, too_large};
 ghost use Rattle.cfgx_c.specs.Status.{wrong_use};
-ghost use Rattle.cfgx_c.specs.internal.Refusals.{Refuses, text_refusal};
+ghost use Rattle.cfgx_c.specs.internal.Refusals.{Refuses};
 
 use crate::answers::otherwise_of;
 use crate::bytes::fill_values;
 use crate::ends::{are_ends, texts};
 use crate::fault::{CfgxFault, Refusal};
-use crate::reading::read_targets;
-use crate::status::{BAD_ENDS, DONE, FAULTY, FAULTY_FACT, NOT_UTF8, OUT_OF_MEMORY, TOO_LARGE};
-use cfg_expr::error::Failure;
+use crate::reading::{read_targets, text_refusal};
+use crate::status::{BAD_ENDS, DONE, FAULTY_FACT, NOT_UTF8, TOO_LARGE};
 use cfgx_engine::resolve::{Otherwise, audit_facts};
-use cfgx_syntax::stripping::strip;
 use std::alloc::Global;
-
-/// Returns why the text with this number cannot be read.
-fn text_refusal(item: usize, text: &str, failure: Failure) -> Refusal
-    ensures { result ≡ text_refusal item text.now failure }
-{
-    match failure {
-        Failure::Parse(error) => Refusal {
-            status: FAULTY,
-            fault: CfgxFault::of(item, strip(text).offset, &error),
-        },
-        Failure::Memory(_) => Refusal::plain(OUT_OF_MEMORY),
-    }
-}
 
 /// Reads the facts and then the texts, and returns the values of the texts on the targets. Target
 /// `j` has the facts up to `target_ends[j]`.

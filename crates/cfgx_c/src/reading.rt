@@ -12,7 +12,7 @@ ghost use Rattle.cfgx_c.specs.Faults.{HasFactFault, fact_offset};
 ghost use Rattle.cfgx_c.specs.Status.{faulty_fact, miscounted, not_utf8};
 ghost use Rattle.cfgx_c.specs.Value.{HasOtherCount};
 ghost use Rattle.cfgx_c.specs.internal.Refusals.{IsAbout, IsFirstFrom};
-ghost use Rattle.cfgx_c.specs.internal.Refusals.{RefusesText, views};
+ghost use Rattle.cfgx_c.specs.internal.Refusals.{RefusesText, text_refusal, views};
 
 use crate::fault::{CfgxFault, Refusal};
 use crate::status::{FAULTY, FAULTY_FACT, MISCOUNTED, NOT_UTF8, OUT_OF_MEMORY};
@@ -39,6 +39,19 @@ pub(crate) fn read_text(text: &[u8]) -> Result<&str, Refusal>
     }
 }
 
+/// Returns why the text with this number cannot be read.
+pub(crate) fn text_refusal(item: usize, text: &str, failure: Failure) -> Refusal
+    ensures { result ≡ text_refusal item text.now failure }
+{
+    match failure {
+        Failure::Parse(error) => Refusal {
+            status: FAULTY,
+            fault: CfgxFault::of(item, strip(text).offset, &error),
+        },
+        Failure::Memory(_) => Refusal::plain(OUT_OF_MEMORY),
+    }
+}
+
 /// Reads the only text of a call as a condition.
 ///
 /// The error is about the text, or memory was refused.
@@ -54,11 +67,7 @@ pub(crate) fn read_condition<'r, 'a>(
 {
     match reader.read(text) {
         Ok(condition) => Ok(condition),
-        Err(Failure::Parse(error)) => Err(Refusal {
-            status: FAULTY,
-            fault: CfgxFault::of(0, strip(text).offset, &error),
-        }),
-        Err(Failure::Memory(_)) => Err(Refusal::plain(OUT_OF_MEMORY)),
+        Err(failure) => Err(text_refusal(0, text, failure)),
     }
 }
 
