@@ -1,6 +1,7 @@
 pub mod Alike
 pub mod Answering
 pub mod Continuing
+pub mod FoundFaults
 pub mod ListLemmas
 pub mod Stripped
 pub mod accepted

@@ -6,7 +6,7 @@ use Rattle.std.proofs.Common.{if◌then◌else◌}
 use Rattle.std.proofs.{lemmas.Bool.Decides.Decides-eqb, lemmas.Bool.false≢true}
 use Rattle.cfgx_syntax.specs.{Token.Token, Items.Item, Error.Fault}
 use Rattle.cfgx_grammar.specs.Question.{Question, Leaf}
-use Rattle.cfgx_grammar.specs.FollowSet.{TokenKind, takes, kind_of, next}
+use Rattle.cfgx_grammar.specs.FollowSet.{TokenKind, takes, token_kind, next}
 use Rattle.cfgx_grammar.specs.{Tree.ListFunction, Tree.Tree, Tree.Trees, Tree.count, Grammar.IsLeaf}
 use Rattle.cfgx_grammar.specs.Grammar.{commas, Separates, IsMember, IsList, IsTree, leaf_tokens}
 use Rattle.cfgx_grammar.specs.parsing.State.{Function, Open, name_of, LocatedText, Pending}
@@ -263,7 +263,7 @@ module _ {W M L : Type 0} {builder : Builder W M L} where
         let r = subst (After Token.open_paren) (sym (ok_same _ u does)) completes none in
         (tokens, refl, rw is (rw is at r))
 
-    Completes-applied : (last : Option Token) (token : Token) → takes last (kind_of token) ≡ true
+    Completes-applied : (last : Option Token) (token : Token) → takes last (token_kind token) ≡ true
         → apply s (at token) token ≡ Ok u → After token u → Completes last s (token ∷ tokens)
     Completes-applied last (Token.key text) may does completes =
         let (value, leaf, others, are, classed, r) = subst (After (Token.key text))

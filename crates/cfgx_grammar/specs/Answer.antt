@@ -4,7 +4,8 @@ use Rattle.std.specs.Prelude.{◌≡◌, ℕ, List, Result, Ok, Err}
 use Rattle.cfgx_syntax.specs.{Stripping.strip, declared.error.Failure.Failure}
 use Rattle.cfgx_syntax.specs.Error.{Fault, fault_in, fault_of}
 use Rattle.cfgx_syntax.specs.declared.error.Failure.TheVariants as failure
-use Rattle.cfgx_grammar.specs.{Question.Question, Tree.Tree, Grammar.HasTree, FirstFault.HasFault}
+use Rattle.cfgx_grammar.specs.{Question.Question, Tree.Tree, Grammar.HasTree}
+use Rattle.cfgx_grammar.specs.FirstFault.{HasFirstFault}
 
 -- a tree, or a fault
 abbrev pub Reading : Type 0
@@ -13,7 +14,7 @@ Reading = Result (Tree Question) Fault
 -- the text has this tree, or this first fault
 abbrev pub HasReading : List ℕ → Reading → Type 0
 HasReading text (Ok tree) = HasTree text tree
-HasReading text (Err fault) = HasFault text fault
+HasReading text (Err fault) = HasFirstFault text fault
 
 -- The text reads as this, and as nothing else. A text in UTF-8 has one such reading, by the lemma
 -- `reads_one_way`.

@@ -7,7 +7,7 @@ use Rattle.std.specs.Prelude.{take, count_by, nat_lt, nat_le, slice_get, Option,
 use Rattle.std.specs.Prelude.{if◌then◌else◌}
 use Rattle.std.specs.Option.{option_or}
 use Rattle.cfgx_syntax.specs.{Token.Token, Items.Item}
-use Rattle.cfgx_grammar.specs.FollowSet.{TokenKind, kind_of, is_kind}
+use Rattle.cfgx_grammar.specs.FollowSet.{TokenKind, token_kind, is_kind}
 
 -- the number of places below a bound that pass the test
 abbrev pub count_below : (ℕ → Bool) → ℕ → ℕ
@@ -38,7 +38,7 @@ names_not Token.not = true
 names_not _ = false
 
 abbrev pub is_closing : Token → Bool
-is_closing token = is_kind TokenKind.closing (kind_of token)
+is_closing token = is_kind TokenKind.closing (token_kind token)
 
 -- the number of functions that are open after the tokens, each from its name on: the functions
 -- named among them less the `)`, and 0 if there are more `)`
@@ -59,7 +59,7 @@ innermost prefix =
 -- whether a key or the name of a function stands there: with these a member of a list begins
 abbrev pub begins_member : Option Item → Bool
 begins_member None = false
-begins_member (Some item) = is_kind TokenKind.name (kind_of item.token)
+begins_member (Some item) = is_kind TokenKind.name (token_kind item.token)
 
 -- whether a member begins at the place, with `level` functions open before it
 abbrev pub begins_at : List Item → ℕ → ℕ → Bool

@@ -15,7 +15,7 @@ use Rattle.cfgx_grammar.specs.Classification.{Class}
 use Rattle.cfgx_grammar.specs.Depth.{depth, first_below, innermost, is_closing, members, names_not}
 use Rattle.cfgx_grammar.specs.Depth.{roots}
 use Rattle.cfgx_grammar.specs.LastPredicate.{KeyAndValue, class_of, part_of, predicate_last}
-use Rattle.cfgx_grammar.specs.FollowSet.{TokenKind, kind_of, is_kind, next, expected}
+use Rattle.cfgx_grammar.specs.FollowSet.{TokenKind, token_kind, is_kind, next, expected}
 
 abbrev pub fault_between : Cause → ℕ → ℕ → Fault
 fault_between cause start end = record { cause = cause; start = start; end = end }
@@ -33,7 +33,7 @@ predicate_fault prefix = option_and_then (λ p. class_fault p (class_of p))
 
 -- whether a pending predicate ends at the token
 abbrev pub ends_predicate : Token → Bool
-ends_predicate token = is_closing token || is_kind TokenKind.comma (kind_of token)
+ends_predicate token = is_closing token || is_kind TokenKind.comma (token_kind token)
 
 abbrev pub head_token : List Item → Option Token
 head_token [] = None
@@ -95,7 +95,7 @@ fault_at items place = option_and_then (fault_after (take place items)) (slice_g
 -- the last token is `=`
 abbrev pub lacks_value : Option Token → Bool
 lacks_value None = false
-lacks_value (Some token) = is_kind TokenKind.equals (kind_of token)
+lacks_value (Some token) = is_kind TokenKind.equals (token_kind token)
 
 -- the fault of a function that is open at the end: from its `(` to the end, or its name if no `(`
 -- follows
@@ -137,7 +137,7 @@ first_fault text items ending = option_or (first_below (fault_at items) (length 
     (option_or (lexical text ending) (end_fault (length text) items))
 
 -- a stripped text has this first fault
-pub record HasFault (text : List ℕ) (fault : Fault) : Type 0 where
+pub record HasFirstFault (text : List ℕ) (fault : Fault) : Type 0 where
   pub items : List Item
   pub ending : Ending
   pub are_items : AreItems text items ending

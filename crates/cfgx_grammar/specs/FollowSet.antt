@@ -13,13 +13,13 @@ pub data TokenKind : Type 0 where
   closing : TokenKind
   comma : TokenKind
 
-abbrev pub kind_of : Token → TokenKind
-kind_of (Token.value _) = TokenKind.value
-kind_of Token.equals = TokenKind.equals
-kind_of Token.open_paren = TokenKind.opening
-kind_of Token.close_paren = TokenKind.closing
-kind_of Token.comma = TokenKind.comma
-kind_of _ = TokenKind.name
+abbrev pub token_kind : Token → TokenKind
+token_kind (Token.value _) = TokenKind.value
+token_kind Token.equals = TokenKind.equals
+token_kind Token.open_paren = TokenKind.opening
+token_kind Token.close_paren = TokenKind.closing
+token_kind Token.comma = TokenKind.comma
+token_kind _ = TokenKind.name
 
 abbrev pub is_kind : TokenKind → TokenKind → Bool
 is_kind TokenKind.name TokenKind.name = true
@@ -47,7 +47,7 @@ takes last kind = list_any (is_kind kind) (followers last)
 
 -- whether the token may follow the last one, or stand at the start
 abbrev pub next : Option Token → Token → Bool
-next last token = takes last (kind_of token)
+next last token = takes last (token_kind token)
 
 -- the terms that a fault there says were expected; the last case is the name of a function
 abbrev pub expected : Option Token → List (List ℕ)

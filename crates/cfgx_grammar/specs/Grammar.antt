@@ -2,6 +2,7 @@
 -- with its literals `true` and `false`, and with any number of commas where it has one, as in the
 -- crate cfg-expr.
 use Rattle.std.specs.Prelude.{◌≡◌, ℕ, ◌<◌, List, [], ◌∷◌, ◌++◌, replicate, map, Option, Some, None}
+use Rattle.std.specs.Prelude.{Bool, true, false, count_by}
 use Rattle.cfgx_syntax.specs.Token.{Token}
 use Rattle.cfgx_syntax.specs.Items.{Item, Ending, AreItems}
 use Rattle.cfgx_grammar.specs.Question.{Leaf, Question}
@@ -10,6 +11,16 @@ use Rattle.cfgx_grammar.specs.Tree.{ListFunction, Tree, Trees}
 
 abbrev pub commas : ℕ → List Token
 commas n = replicate n Token.comma
+
+-- a comma or an opening parenthesis: one stands in front of each member of a function
+abbrev pub is_comma_or_open : Token → Bool
+is_comma_or_open Token.comma = true
+is_comma_or_open Token.open_paren = true
+is_comma_or_open _ = false
+
+-- the number of commas and opening parentheses among the tokens
+abbrev pub commas_and_opens : List Token → ℕ
+commas_and_opens = count_by is_comma_or_open
 
 -- the tokens of a key, and of `=` and the value if there is one
 abbrev pub leaf_tokens : List ℕ → Option (List ℕ) → List Token

@@ -2,7 +2,9 @@ pub mod FaultyKeys
 pub mod FewTokens
 pub mod Innermost
 pub mod KindLemmas
+pub mod KindNumbers
 pub mod Kept
+pub mod NeededRoom
 pub mod NodeSizes
 pub mod Places
 pub mod ReadTokens

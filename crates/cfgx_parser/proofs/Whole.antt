@@ -1,5 +1,5 @@
 -- `parse` returns what the grammar says, once the whole text is read.
-use Rattle.std.proofs.Common.{◌≡◌, ℕ, List, Result, Ok, Err}
+use Rattle.std.proofs.Common.{◌≡◌, ℕ, ◌≤◌, List, length, Result, Ok, Err, IsOk, ap, refl, rules}
 use Rattle.std.{specs.Prelude.IsErrAnd, proofs.lemmas.Result.err_from_is_err_and}
 use Rattle.cfgx_syntax.{specs.Items.HasOneTokenList, specs.Stripping.strip}
 use Rattle.cfgx_syntax.specs.{declared.error.Failure.Failure, LexerState.{LexerState, starting}}
@@ -8,8 +8,11 @@ use Rattle.cfgx_grammar.{specs.Answer.Answers, specs.Answer.HasOneTree, proofs.S
 use Rattle.cfgx_parser.{specs.nodes.KeepsTree.KeepsOneTree, specs.declared.parser.Parser.Parser}
 use Rattle.cfgx_parser.proofs.Kept.{KeepsOneTree-accepted}
 use Rattle.cfgx_grammar.{specs.parsing.State.initial, proofs.Answering.reads_one_way}
-use Rattle.cfgx_parser.specs.parsing.Parser.{state_of, Ends, ReadsAll}
+use Rattle.cfgx_parser.specs.parsing.Parser.{state_of, Ends, ReadsAll, ReadsShort, room_of}
+use Rattle.cfgx_parser.specs.parsing.NodeState.{ParserState}
 use Rattle.cfgx_grammar.proofs.Answering.{HasOneTree-tree, ReadsAs-fault, answer, tree_of}
+use Rattle.cfgx_grammar.proofs.Answering.{not_both}
+use Rattle.cfgx_syntax.specs.Error.{Fault}
 
 -- the lexer and the parser are at the start of the text
 pub record Begins {A : Type 0} (text : List ℕ) (lexer : LexerState)
@@ -51,3 +54,16 @@ module _ {A : Type 0} {text : List ℕ} {lexer : LexerState} {old : Parser A} (n
         strip-tree text tree has,
         HasOneTree-tree has,
       )
+
+-- a new parser reads a condition of at most four bytes without memory
+pub Short-read : {A : Type 0} {text : List ℕ} {lexer : LexerState} {old : Parser A}
+    (result : Result (Unit {0}) (Failure A)) → Begins {A = A} text lexer old → HasOneTree text
+    → length text ≤ 4 → ReadsShort {A = A} lexer old result → IsOk result
+Short-read {A} {text} {old = old} result b one short reads =
+    let few : room_of (state_of {A = A} old) ≡ 0 = ap room_of b.state_is in
+    let ready = (rw b.lexer_is at reads) few short b.one.items b.one.ending b.one.are in
+    (rw b.state_is at ready) (accepted (answer text b.one) refl)
+  where
+    accepted : (r : Result ParserState Fault) → answer text b.one ≡ r → IsOk r
+    accepted (Ok s) is = search rules
+    accepted (Err fault) is = absurd (not_both (ReadsAs-fault text b.one fault is) one)

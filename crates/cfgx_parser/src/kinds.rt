@@ -3,6 +3,8 @@ ghost use Rattle.std.specs.Prelude.{◌≡◌, ℕ, List};
 ghost use Rattle.cfgx_parser.specs.Kinds.{kind_number, kind_of, target_kind};
 ghost use Rattle.cfgx_parser.specs.nodes.Located.{question_with, target_with};
 
+pub mod laws;
+
 use crate::nodes::{InnerPredicate, InnerTarget};
 use cfgx_fields::text_key::TextKey;
 

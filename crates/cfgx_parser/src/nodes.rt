@@ -94,7 +94,7 @@ impl Located {
     /// Returns the span of the whole predicate: from its key past the closing quote of its value,
     /// or to the end of a key without a value.
     pub fn span(&self) -> Span
-        requires { (text : List ℕ) × HasCut text self.now × (length text + 1 < 2 ^ 64) }
+        requires { (text : List ℕ) × HasCut text self.now × (length text < 2 ^ 64) }
         ensures { result ≡ whole_span self.now }
     {
         let end = if self.value.start == self.key.start {
@@ -183,6 +183,8 @@ pub(crate) struct NodeWriter<A: SmallAllocator> {
     first_capacity: usize,
     /// Both counts are the lengths of their vectors
     ghost counted: { (node_count ≡ length nodes.items) × (waiting_count ≡ length waiting.items) },
+    /// Each place is that of a node of its own
+    ghost few: { length waiting.items + length places.items ≤ length nodes.items },
 }
 
 impl<A: SmallAllocator> NodeWriter<A> {
@@ -262,6 +264,7 @@ impl<A: SmallAllocator> NodeWriter<A> {
         ensures written { OnOk result (written_of self.new ≡ with_node node (written_of self.old)) }
         ensures unchanged { OnErr result (written_of self.new ≡ written_of self.old) }
         ensures countable { OnOk result (length (written_of self.new).nodes < 2 ^ 64) }
+        ensures room { OnErr result (5 ≤ length (written_of self.old).nodes) }
     {
         let place = self.node_count;
         prove!(place == self.nodes.len());
@@ -279,10 +282,12 @@ impl<A: SmallAllocator> NodeWriter<A> {
         ensures written { OnOk result
             (written_of self.new ≡ with_leaf leaf (written_of self.old)) }
         ensures kept { KeepsNodes (written_of self.old) (written_of self.new) }
+        ensures room { OnErr result (4 ≤ length (written_of self.old).nodes) }
     {
         let is_asked = matches!(leaf, ExprNode::Predicate(_));
         let place = self.push_node(leaf)?;
         if is_asked {
+            prove!(self.waiting.capacity() >= 4);
             self.waiting.push(place)?;
             prove!(self.waiting_count < self.waiting.len());
             self.waiting_count += 1;
@@ -297,6 +302,7 @@ impl<A: SmallAllocator> NodeWriter<A> {
         ensures written { OnOk result
             (written_of self.new ≡ with_function (written_of self.old)) }
         ensures kept { KeepsNodes (written_of self.old) (written_of self.new) }
+        ensures room { OnErr result (5 ≤ length (written_of self.old).nodes) }
     {
         let node = self.push_node(ExprNode::Fn {
             func: Func::Not,
@@ -311,9 +317,11 @@ impl<A: SmallAllocator> NodeWriter<A> {
         ensures written { OnOk result (written_of self.new
             ≡ with_list_ended (length (written_of self.old).waiting - 1) (written_of self.old)) }
         ensures kept { KeepsNodes (written_of self.old) (written_of self.new) }
+        ensures room { OnErr result (5 ≤ length (written_of self.old).nodes) }
     {
         if let Some(place) = self.waiting.pop() {
             self.waiting_count -= 1;
+            prove!(self.places.capacity() >= 4);
             self.places.push(place)?;
         }
         Ok(())
@@ -325,7 +333,9 @@ impl<A: SmallAllocator> NodeWriter<A> {
         ensures written { OnOk result
             (written_of self.new ≡ with_list_ended begin (written_of self.old)) }
         ensures kept { KeepsNodes (written_of self.old) (written_of self.new) }
+        ensures room { OnErr result (5 ≤ length (written_of self.old).nodes) }
     {
+        prove!(self.places.capacity() >= 4);
         self.places
             .extend_from_slice(&self.waiting.as_slice()[begin..])?;
         self.waiting.truncate(begin);
@@ -340,6 +350,7 @@ impl<A: SmallAllocator> NodeWriter<A> {
         ensures written { OnOk result
             (written_of self.new ≡ with_list_ended begin (written_of self.old)) }
         ensures kept { KeepsNodes (written_of self.old) (written_of self.new) }
+        ensures room { OnErr result (5 ≤ length (written_of self.old).nodes) }
     {
         let count = self.waiting_count;
         // Never less than `begin`: an inner list takes its own predicates alone.
@@ -369,6 +380,7 @@ impl<A: SmallAllocator> NodeWriter<A> {
         ensures written { OnOk result
             (written_of self.new ≡ with_function_ended mark func (written_of self.old)) }
         ensures kept { KeepsNodes (written_of self.old) (written_of self.new) }
+        ensures room { OnErr result (5 ≤ length (written_of self.old).nodes) }
     {
         self.complete(mark.node, func);
         self.end_list(mark.waiting)

@@ -1,6 +1,6 @@
 //! The parser: from a text to the nodes of its tree, in one pass.
 ghost use Rattle.std.specs.Prelude.{◌≡◌, ◌+◌, ◌≤◌, ◌^◌, ◌<◌, [], true, length, reverse};
-ghost use Rattle.std.specs.Prelude.{Err, OnOk};
+ghost use Rattle.std.specs.Prelude.{OnErr, OnOk};
 ghost use Rattle.cfgx_syntax.specs.Error.{cause_of, unexpected};
 ghost use Rattle.cfgx_syntax.specs.Lexer.{token_of, item_of};
 ghost use Rattle.cfgx_grammar.specs.FollowSet.{next, expected};
@@ -237,6 +237,8 @@ impl<'a, A: SmallAllocator> Parser<'a, A> {
     ghost use Rattle.cfgx_parser.specs.parsing.Parser.{state_of, Gives, Opens, WritesPending};
     ghost use Rattle.cfgx_parser.specs.parsing.Parser.{parens_opened, value_added, IsQuoted};
     ghost use Rattle.cfgx_parser.specs.parsing.Parser.{FailsAsHalted};
+    ghost use Rattle.cfgx_parser.specs.parsing.Parser.{ReadsShort, room_of};
+    ghost use Rattle.cfgx_parser.specs.declared.parser.Halt.TheVariants as halt;
     ghost use Rattle.cfgx_parser.specs.parsing.Parser.{closed_at, concluded, HaltsAs, ReadsAll};
 
     /// Returns a parser that has read nothing of a text of `len` bytes.
@@ -296,8 +298,9 @@ impl<'a, A: SmallAllocator> Parser<'a, A> {
 
     /// Notes a fault, and returns the halt for it.
     fn halt(&mut self, reason: Reason, span: Span) -> Halt
-        ensures { HaltsAs result self.new
-            (Err (fault_between (cause_of reason) span.start span.end)) }
+        ensures halted { result ≡ halt.Fault }
+        ensures noted { plain_fault self.new.fault
+            ≡ fault_between (cause_of reason) span.start span.end }
     {
         self.fault = Fault { reason, span };
         Halt::Fault
@@ -366,7 +369,7 @@ impl<'a, A: SmallAllocator> Parser<'a, A> {
 
     /// Writes the pending predicate or literal, if there is one, and counts it.
     fn end_predicate(&mut self) -> Result<(), Halt>
-        ensures answer { Gives result self.new (predicate_ended (state_of self.old)) }
+        ensures answer { Gives result self.old self.new (predicate_ended (state_of self.old)) }
         ensures functions { OnOk result
             (self.new.func_stack.items ≡ self.old.func_stack.items) }
     {
@@ -380,7 +383,8 @@ impl<'a, A: SmallAllocator> Parser<'a, A> {
     /// Opens a function whose name stands at `span`.
     #[inline(always)]
     fn open(&mut self, kind: FuncKind, span: Span) -> Result<(), AllocError>
-        ensures { OnOk result (Opens self.old self.new (function_of kind) span) }
+        ensures opened { OnOk result (Opens self.old self.new (function_of kind) span) }
+        ensures room { OnErr result (4 < room_of (state_of self.old)) }
     {
         let mark = self.writer.begin_function()?;
         // A comparison costs less than the call, which is out of line.
@@ -399,7 +403,7 @@ impl<'a, A: SmallAllocator> Parser<'a, A> {
 
     /// Closes the innermost function at the `)` that stands at `span`.
     fn close(&mut self, span: Span) -> Result<(), Halt>
-        ensures { Gives result self.new (closed_at (state_of self.old) span) }
+        ensures { Gives result self.old self.new (closed_at (state_of self.old) span) }
     {
         let Some(top) = self.func_stack.pop() else {
             return Err(self.halt(Reason::UnopenedParens, span));
@@ -438,7 +442,7 @@ impl<'a, A: SmallAllocator> Parser<'a, A> {
     /// Applies a token that may stand after the last one.
     fn apply(&mut self, lexed: LexerToken<'a>) -> Result<(), Halt>
         requires quoted { IsQuoted lexed }
-        ensures { Gives result self.new
+        ensures { Gives result self.old self.new
             (apply (state_of self.old) (item_of lexed.entry) (token_of lexed.entry.token)) }
     {
         let LexerToken { token, span } = lexed;
@@ -463,7 +467,7 @@ impl<'a, A: SmallAllocator> Parser<'a, A> {
     /// Applies a token if it may follow `last`, and otherwise halts with what was expected.
     fn read(&mut self, last: LastToken, lexed: LexerToken<'a>) -> Result<(), Halt>
         requires quoted { IsQuoted lexed }
-        ensures { Gives result self.new
+        ensures { Gives result self.old self.new
             (step (token_like last) (state_of self.old) (item_of lexed.entry)) }
     {
         if !may_follow(last, lexed.token) {
@@ -476,7 +480,7 @@ impl<'a, A: SmallAllocator> Parser<'a, A> {
     /// member there is a fault.
     fn end_roots(&mut self, len: usize) -> Result<(), Halt>
         requires { self.old.func_stack.items ≡ [] }
-        ensures { Gives result self.new (one_root len (state_of self.old)) }
+        ensures { Gives result self.old self.new (one_root len (state_of self.old)) }
     {
         let whole = Span { start: 0, end: len };
         match self.list.ended_members {
@@ -488,7 +492,7 @@ impl<'a, A: SmallAllocator> Parser<'a, A> {
 
     /// Ends a text of `len` bytes in which no value is missing. An open function is a fault.
     fn end_text(&mut self, len: usize) -> Result<(), Halt>
-        ensures { Gives result self.new (concluded (state_of self.old) len) }
+        ensures { Gives result self.old self.new (concluded (state_of self.old) len) }
     {
         if let Some(top) = self.func_stack.last() {
             let Fault { reason, span } = unclosed(top, self.list, len);
@@ -500,7 +504,8 @@ impl<'a, A: SmallAllocator> Parser<'a, A> {
 
     /// Ends a text of `len` bytes after its last token.
     fn finish(&mut self, last: LastToken, len: usize) -> Result<(), Halt>
-        ensures { Gives result self.new (conclude (token_like last) len (state_of self.old)) }
+        ensures { Gives result self.old self.new
+            (conclude (token_like last) len (state_of self.old)) }
     {
         if lacks_value(last) {
             return Err(self.halt(Reason::Unexpected(terms::VALUE), Span::from(len..len)));
@@ -516,7 +521,8 @@ impl<'a, A: SmallAllocator> Parser<'a, A> {
     /// `Failure::Parse`: the first fault of the text. `Failure::Memory`: an allocator refused
     /// memory.
     pub fn read_all(&mut self, alloc: A, lexer: Lexer<'a, A>) -> Result<(), Failure<A>>
-        ensures { ReadsAll lexer.entry self.old self.new result }
+        ensures reads { ReadsAll lexer.entry self.old self.new result }
+        ensures short { ReadsShort lexer.entry self.old result }
     {
         let text = lexer.original();
         let mut last = LastToken::Start;

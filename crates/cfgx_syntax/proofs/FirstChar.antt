@@ -16,7 +16,7 @@ pub record IsFirst (text : List ℕ) (from place c : ℕ) : Type 0 where
   pub visible : is_not_whitespace c ≡ true
 
 -- a character takes at least one byte
-char_some : (c : ℕ) (more : List ℕ) → 0 < length (encode_utf8 c ++ more)
+pub char_some : (c : ℕ) (more : List ℕ) → 0 < length (encode_utf8 c ++ more)
 char_some c more = grind (arith, length-append, length-encode)
 
 -- the first character after white space, and what follows it, are determined

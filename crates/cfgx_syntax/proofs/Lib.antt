@@ -6,7 +6,9 @@ pub mod Finding
 pub mod FirstChar
 pub mod FirstToken
 pub mod ItemSizes
+pub mod ItemSpans
 pub mod LaneLemmas
+pub mod Numbers
 pub mod Repeated
 pub mod Scanning
 pub mod TokenList

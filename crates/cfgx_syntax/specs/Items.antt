@@ -4,9 +4,10 @@
 use Rattle.std.specs.Prelude.{◌≡◌, ℕ, ◌+◌, ◌≤◌, ◌||◌, Bool, true, false, List, [], ◌∷◌, ◌++◌}
 use Rattle.std.specs.Prelude.{Option, Some, None, codes, drop, encode_utf8, length, slice_range}
 use Rattle.std.specs.Char.{IsScalar, is_not_whitespace, char_set_contains}
-use Rattle.std.specs.{Str.NoCharPasses, List.AllByRecursion}
+use Rattle.std.specs.{Str.NoCharPasses, List.AllByRecursion, List.AllPairs}
 use Rattle.cfgx_syntax.specs.Cut.{CanBeCut}
 use Rattle.cfgx_syntax.specs.{Error.Cause, Error.Fault, Error.unexpected, Terms.member}
+use Rattle.cfgx_syntax.specs.Spans.{LiesIn}
 use Rattle.cfgx_syntax.specs.Token.{Token, starts_word, Spells, IsWhole, HasNoQuote}
 
 -- a token, and the bytes `start..end` of the text that spell it
@@ -74,6 +75,11 @@ ItemsFrom text from (item ∷ items) ending =
 -- the token list of a text
 abbrev pub AreItems : List ℕ → List Item → Ending → Type 0
 AreItems text items ending = ItemsFrom text 0 items ending
+
+-- each item lies in the text, and behind all items before it
+pub record LieInOrder (text : List ℕ) (items : List Item) : Type 0 where
+  pub each : AllByRecursion (λ item. LiesIn text item.start item.end) items
+  pub in_order : AllPairs (λ item later. item.end ≤ later.start) items
 
 -- the text has exactly one token list and one ending, and each token can be cut out of it
 pub record HasOneTokenList (text : List ℕ) : Type 0 where

@@ -6,6 +6,7 @@ pub mod Lexer
 pub mod LexerState
 pub mod Logic
 pub mod Size
+pub mod Spans
 pub mod Stripping
 pub mod Terms
 pub mod Token

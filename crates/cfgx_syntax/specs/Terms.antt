@@ -1,6 +1,6 @@
 -- The lists of terms of `Unexpected`: what a text lacks.
 -- Source: the crate cfg-expr.
-use Rattle.std.specs.Prelude.{◌+◌, ℕ, List, [], ◌∷◌, codes}
+use Rattle.std.specs.Prelude.{◌+◌, ◌<◌, ℕ, List, [], ◌∷◌, codes}
 use Rattle.std.specs.{List.position, Option.option_map_or}
 use Rattle.cfgx_syntax.specs.Error.{Cause, texts_eq}
 
@@ -57,3 +57,8 @@ list_number terms = option_map_or (λ place. place + 1) (position (texts_eq term
 abbrev pub terms_number : Cause → ℕ
 terms_number (Cause.unexpected terms) = list_number terms
 terms_number _ = 0
+
+-- a list of terms that the cause has is one of those with a number
+abbrev pub HasNumberedTerms : Cause → Type 0
+HasNumberedTerms (Cause.unexpected terms) = 0 < list_number terms
+HasNumberedTerms _ = Unit {0}

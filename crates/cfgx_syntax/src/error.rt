@@ -7,6 +7,7 @@ ghost use Rattle.cfgx_syntax.specs.Error.{cause_of, fault_in, marks, more_terms_
 ghost use Rattle.cfgx_syntax.specs.Error.{opening_words, quoted, texts_eq, unexpected_text};
 ghost use Rattle.cfgx_syntax.specs.Error.{FailsWith};
 
+pub mod laws;
 pub mod terms;
 
 use std::alloc::{AllocError, AllocFailed, Allocator, Global};

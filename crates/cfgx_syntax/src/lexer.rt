@@ -12,6 +12,7 @@ ghost use Rattle.cfgx_syntax.specs.Stripping.{strip};
 ghost use Rattle.cfgx_syntax.specs.Token.{continues_word, starts_word, IsWord, Spells};
 
 mod bytes;
+pub mod laws;
 
 use crate::error::{Failure, Reason, terms};
 use crate::stripping::strip;

@@ -7,7 +7,7 @@ use Rattle.std.proofs.Common.{arith, take_at, option_map, take_all, if◌then◌
 use Rattle.std.proofs.{Common.slice_get, Common.None, lemmas.Option.slice_get_within}
 use Rattle.std.proofs.{lemmas.Bool.cases_lt, lemmas.List.take-append-le, lemmas.List.length_push}
 use Rattle.cfgx_syntax.specs.Items.{Item}
-use Rattle.cfgx_grammar.specs.FollowSet.{TokenKind, kind_of, is_kind}
+use Rattle.cfgx_grammar.specs.FollowSet.{TokenKind, token_kind, is_kind}
 use Rattle.cfgx_grammar.specs.Depth.{members_at, innermost}
 use Rattle.cfgx_grammar.specs.Depth.{count_below, last_below, begins_member, depth, depth_at}
 use Rattle.cfgx_grammar.specs.parsing.State.{Function, Open, name_of}
@@ -111,7 +111,7 @@ module _ (prefix : List Item) (item : Item) where
   -- whether the token is counted
   abbrev is_counted : ℕ → ℕ → Bool
   is_counted level from = nat_le from (length prefix)
-      && (depth prefix == level && is_kind TokenKind.name (kind_of item.token))
+      && (depth prefix == level && is_kind TokenKind.name (token_kind item.token))
 
   pub members_at_more : (level from : ℕ) (counted : Bool) → is_counted level from ≡ counted
       → members_at more level from ≡ (if counted then suc (members_at prefix level from)
@@ -125,13 +125,13 @@ module _ (prefix : List Item) (item : Item) where
 
   -- the token begins a member at the depth
   pub members_at_name : (level from : ℕ) → from ≤ length prefix → depth prefix ≡ level
-      → is_kind TokenKind.name (kind_of item.token) ≡ true
+      → is_kind TokenKind.name (token_kind item.token) ≡ true
       → members_at more level from ≡ members_at prefix level from + 1
   members_at_name level from le at begins =
       members_at_more level from true (grind arith) ∙ omega arith
 
   -- it begins none
-  pub members_at_other : (level from : ℕ) → is_kind TokenKind.name (kind_of item.token) ≡ false
+  pub members_at_other : (level from : ℕ) → is_kind TokenKind.name (token_kind item.token) ≡ false
       → members_at more level from ≡ members_at prefix level from
   members_at_other level from begins = members_at_more level from false (grind arith)
 
@@ -165,7 +165,7 @@ module _ (prefix : List Item) (item : Item) where
 
   -- the token begins a member of the innermost list
   pub Levels-member : {M : Type 0} (roots : ℕ) (stack : List (Open M)) → length stack ≤ depth more
-      → depth prefix ≡ length stack → is_kind TokenKind.name (kind_of item.token) ≡ true
+      → depth prefix ≡ length stack → is_kind TokenKind.name (token_kind item.token) ≡ true
       → Levels prefix roots false stack 0 → Levels more roots false stack 1
   Levels-member roots [] deep at begins levels = grind (arith, members_at_name)
   Levels-member roots (top ∷ rest) deep at begins (l, levels) = (
@@ -179,7 +179,7 @@ module _ (prefix : List Item) (item : Item) where
 
   -- the token is the `(` of the innermost function
   pub Levels-open : {M : Type 0} (roots going : ℕ) (stack : List (Open M))
-      → length stack ≤ depth more → is_kind TokenKind.name (kind_of item.token) ≡ false
+      → length stack ≤ depth more → is_kind TokenKind.name (token_kind item.token) ≡ false
       → Levels prefix roots true stack going
       → Levels more roots false (over_top (with_parens item.start) stack) going
   Levels-open roots going [] deep other levels = members_at_other 0 0 other ∙ levels

@@ -9,7 +9,7 @@ use Rattle.std.proofs.lemmas.Option.{slice_get_within, slice_get_past}
 use Rattle.cfgx_syntax.specs.{Token.Token, Items.Item, Items.Ending, Items.lexical}
 use Rattle.cfgx_syntax.specs.Error.{Fault, invalid_not}
 use Rattle.cfgx_grammar.specs.{Tree.ListFunction, Depth.members, Depth.first_below}
-use Rattle.cfgx_grammar.specs.FollowSet.{TokenKind, takes, kind_of, is_kind, next}
+use Rattle.cfgx_grammar.specs.FollowSet.{TokenKind, takes, token_kind, is_kind, next}
 use Rattle.cfgx_grammar.specs.Depth.{names_function, is_closing, depth, depth_at, innermost}
 use Rattle.cfgx_grammar.specs.LastPredicate.{predicate_last, located_text, with_value}
 use Rattle.cfgx_grammar.specs.FirstFault.{predicate_fault, head_token, last_token, lacks_value}
@@ -207,7 +207,7 @@ module _ {W M L : Type 0} {builder : Builder W M L} (prefix : List Item) (s : St
 
     -- a token that neither opens nor closes a function and begins no member
     stays : (token : Token) (t : State builder) (w : ℕ) → names_function token ≡ false
-        → is_kind TokenKind.name (kind_of token) ≡ false → Rises token (length t.stack)
+        → is_kind TokenKind.name (token_kind token) ≡ false → Rises token (length t.stack)
         → t.pending ≡ begun_token (at token) (reverse prefix) token → going t.pending ≡ w
         → Levels prefix t.roots false t.stack w → Matches (more token) t
     stays token t w no_name other rises pending goes levels =
@@ -216,7 +216,7 @@ module _ {W M L : Type 0} {builder : Builder W M L} (prefix : List Item) (s : St
     -- the name of a function
     name_step : (function : Function) → takes (last_token prefix) TokenKind.name ≡ true
         → names_function (name_of function) ≡ true → is_closing (name_of function) ≡ false
-        → is_kind TokenKind.name (kind_of (name_of function)) ≡ true
+        → is_kind TokenKind.name (token_kind (name_of function)) ≡ true
         → begun_token (at (name_of function)) (reverse prefix) (name_of function) ≡ None
         → Meets (Matches (more (name_of function))) (Ok (opened s function (at (name_of function))))
         None

@@ -1,6 +1,6 @@
 -- The clauses of the parser's functions: they compute the steps.
-use Rattle.std.specs.Prelude.{◌≡◌, ℕ, ◌+◌, ◌-◌, ◌≤◌, List, length, reverse, option_map}
-use Rattle.std.specs.Prelude.{Option, Some, None, Result, Ok, Err}
+use Rattle.std.specs.Prelude.{◌≡◌, ℕ, ◌+◌, ◌-◌, ◌*◌, ◌<◌, ◌≤◌, List, length, reverse, option_map}
+use Rattle.std.specs.Prelude.{Option, Some, None, Result, Ok, Err, IsOk}
 use Rattle.std.specs.declared.ops.Range.{Range}
 use Rattle.cfgx_parser.specs.declared.nodes.Span.{Span}
 use Rattle.cfgx_syntax.specs.Token as spelled
@@ -33,10 +33,25 @@ state_of p = record {
   written = written_of p.writer;
 }
 
--- a parser that halts at a fault has noted the fault of the steps
-abbrev pub HaltsAs : {A : Type 0} → Halt → Parser A → Result ParserState Fault → Type 0
-HaltsAs halt.Fault parser answer = answer ≡ Err (plain_fault parser.fault)
-HaltsAs halt.Memory parser answer = Unit {0}
+-- the number of pending predicates
+abbrev pub pending_count : {X : Type 0} → Option X → ℕ
+pending_count None = 0
+pending_count (Some p) = 1
+
+-- the number of nodes, with that of the pending predicate
+abbrev pub node_room_of : ParserState → ℕ
+node_room_of s = length s.written.nodes + pending_count s.pending
+
+-- The room that a parser needs, which is at most the number of bytes that it has read: a node takes
+-- one, and an open function two more, as its name has three bytes.
+abbrev pub room_of : ParserState → ℕ
+room_of s = node_room_of s + 2 * length s.stack
+
+-- A parser that halts at a fault has noted the fault of the steps. One that is out of memory needed
+-- more than the room that it has inline.
+abbrev pub HaltsAs : {A : Type 0} → Halt → ℕ → Parser A → Result ParserState Fault → Type 0
+HaltsAs halt.Fault room parser answer = answer ≡ Err (plain_fault parser.fault)
+HaltsAs halt.Memory room parser answer = 4 < room
 
 -- a failure that has a fault has that of the steps
 abbrev pub FailsAs : {A : Type 0} → List ℕ → Failure A → Result ParserState Fault → Type 0
@@ -46,14 +61,15 @@ FailsAs text (failure.Memory error) answer = Unit {0}
 
 -- the failure of a parser that has halted
 abbrev pub FailsAsHalted : {A : Type 0} → List ℕ → Halt → Parser A → Failure A → Type 0
-FailsAsHalted {A} text h parser failure = (answer : Result ParserState Fault)
-    → HaltsAs {A = A} h parser answer → FailsAs text failure answer
+FailsAsHalted {A} text h parser failure = (room : ℕ) (answer : Result ParserState Fault)
+    → HaltsAs {A = A} h room parser answer → FailsAs text failure answer
 
 -- the result of a function that computes a step
-abbrev pub Gives : {A : Type 0} → Result (Unit {0}) Halt → Parser A → Result ParserState Fault
-    → Type 0
-Gives {A} (Ok done) new answer = answer ≡ Ok (state_of {A = A} new)
-Gives {A} (Err halt) new answer = HaltsAs {A = A} halt new answer
+abbrev pub Gives : {A : Type 0} → Result (Unit {0}) Halt → Parser A → Parser A
+    → Result ParserState Fault → Type 0
+Gives {A} (Ok done) old new answer = answer ≡ Ok (state_of {A = A} new)
+Gives {A} (Err halt) old new answer =
+    HaltsAs {A = A} halt (room_of (state_of {A = A} old)) new answer
 
 abbrev pub item_at : Span → Item
 item_at span = record { token = spelled.Token.comma; start = span.start; end = span.end }
@@ -72,24 +88,20 @@ pending_written None s = Ok (settled s s.written)
 pending_written (Some p) s = result_map (λ leaf. settled s (with_leaf leaf s.written))
     (classified p)
 
--- the number of pending predicates
-abbrev pub pending_count : {X : Type 0} → Option X → ℕ
-pending_count None = 0
-pending_count (Some p) = 1
-
 -- the pending predicate is written, and nothing else changes
 pub record Wrote {A : Type 0} (old new : Parser A) : Type 0 where
   pub written : pending_written (state_of {A = A} old).pending (state_of {A = A} old)
       ≡ Ok (settled (state_of {A = A} old) (written_of new.writer))
   pub one_more : length (written_of old.writer).nodes + pending_count old.pending
-      ≤ length (written_of new.writer).nodes
+      ≡ length (written_of new.writer).nodes
   pub none : new.pending ≡ None
   pub functions : new.func_stack.items ≡ old.func_stack.items
   pub list : new.list ≡ old.list
 
 abbrev pub WritesPending : {A : Type 0} → Parser A → Parser A → Result (Unit {0}) Halt → Type 0
 WritesPending {A} old new (Ok done) = Wrote {A = A} old new
-WritesPending {A} old new (Err halt) = HaltsAs {A = A} halt new
+WritesPending {A} old new (Err halt) =
+    HaltsAs {A = A} halt (node_room_of (state_of {A = A} old)) new
     (pending_written (state_of {A = A} old).pending (state_of {A = A} old))
 
 abbrev pub parens_opened : ParserState → ℕ → ParserState
@@ -128,3 +140,11 @@ ReadsAll {A} lexer old new result =
     (items : List Item) (ending : Ending) → ItemsFrom lexer.text lexer.place items ending
     → Ends {A = A} result lexer.text new
     (answer_from None (state_of {A = A} old) lexer.text items ending)
+
+-- a text of at most four bytes that has no fault is read without memory
+abbrev pub ReadsShort : {A : Type 0} → LexerState → Parser A → Result (Unit {0}) (Failure A)
+    → Type 0
+ReadsShort {A} lexer old result = room_of (state_of {A = A} old) ≡ 0
+    → length lexer.text ≤ 4
+    → (items : List Item) (ending : Ending) → ItemsFrom lexer.text lexer.place items ending
+    → IsOk (answer_from None (state_of {A = A} old) lexer.text items ending) → IsOk result

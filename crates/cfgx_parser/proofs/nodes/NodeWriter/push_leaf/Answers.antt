@@ -16,3 +16,9 @@ returns-in_ok-push-clause-kept g c = grind (arith, common_steps)
 
 pub returns-else-is_asked-clause-kept : goal.returns-else-is_asked-clause-kept
 returns-else-is_asked-clause-kept g c = grind (arith, common_steps)
+
+pub capacity-requires : goal.capacity-requires
+capacity-requires g c = room _ _ _ g.met.A.SmallAllocator.small (omega arith)
+
+pub returns-in_err-push-clause-room : goal.returns-in_err-push-clause-room
+returns-in_err-push-clause-room g c = grind (arith, common_steps)

@@ -17,4 +17,5 @@ invariant_of-self g c =
     record {
       counted =
           (sym (ap length c.clear.ensures.items), sym (ap length c.clear-2.ensures.items));
+      few = omega (arith, ap length c.clear-2.ensures.items, ap length c.clear-3.ensures.items);
     }
