@@ -9,6 +9,7 @@ use Rattle.cfg_expr.proofs.SameShapes.{polarities-shape, polarities_each-shape}
 use Rattle.cfg_expr.specs.Fold.{Operations, from_last, list_value, values_by, first_or}
 use Rattle.cfg_expr.specs.Filling.{two_valued, three_valued, filled_by, Agrees, IsFilling}
 use Rattle.cfg_expr.specs.Filling.{IsExact, polar, polarities, polarities_each}
+use Rattle.cfg_expr.specs.Filling.{KeepsKnown, StaysKnown}
 use Rattle.cfgx_grammar.proofs.Alike.{AllZip-append, length-asked, length-asked_by}
 
 -- Values of two logics that are related stay so.
@@ -117,6 +118,17 @@ fold_kept one other R preserve tree xs ys all = value_kept one other (λ p. R) p
 
 agreement : Preserve three_valued two_valued (λ p. Agrees)
 agreement = grind arith
+
+-- a known value stays when more answers become known
+
+stays : Preserve three_valued three_valued (λ p. StaysKnown)
+stays = grind arith
+
+pub known_stays : {X : Type 0} (tree : Tree X) (answers later : List (Option Bool))
+    → KeepsKnown answers later
+    → StaysKnown (tree_fold three_valued tree answers) (tree_fold three_valued tree later)
+known_stays tree answers later keeps =
+    fold_kept three_valued three_valued StaysKnown stays tree answers later keeps
 
 -- the polar filling with `fill` leads to the value, or to `fill` if that is unknown
 

@@ -4,6 +4,7 @@ pub mod Chains
 pub mod Dealing
 pub mod Exactness
 pub mod Located
+pub mod LocatedOnce
 pub mod MappedValues
 pub mod Matched
 pub mod MatchedLanes
@@ -11,5 +12,6 @@ pub mod Parities
 pub mod Parts
 pub mod Rooms
 pub mod SameShapes
+pub mod Written
 pub mod evaluated
 pub mod stepped

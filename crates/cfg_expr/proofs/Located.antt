@@ -2,13 +2,16 @@
 use Rattle.std.proofs.Common.{◌≡◌, ℕ, suc, List, [], ◌∷◌, ◌++◌, Some, None, length, map, refl}
 use Rattle.std.proofs.Common.{sym, ap, ◌∙◌, arith, drop, length-take, subst}
 use Rattle.std.proofs.lemmas.{List.length-map, Option.slice_get-map}
-use Rattle.std.specs.Prelude.{◌-◌, ◌≤◌, ◌<◌, option_map, slice_range}
-use Rattle.std.specs.List.{AllZip, slice_get}
+use Rattle.std.specs.Prelude.{◌-◌, ◌≤◌, ◌<◌, option_map, slice_range, Bool, true, false}
+use Rattle.std.specs.Prelude.{if◌then◌else◌}
+use Rattle.std.specs.List.{AllByRecursion, AllZip, slice_get}
 use Rattle.cfgx_syntax.specs.Items.{Ending, Item, ItemsFrom, Stands}
+use Rattle.cfgx_syntax.specs.Spans.{LiesIn}
 use Rattle.cfgx_syntax.specs.Token.{Spells, Token}
 use Rattle.cfgx_grammar.proofs.Alike.{Alike, AlikeEach, asked-alike}
+use Rattle.cfgx_grammar.proofs.ListLemmas.{all_of_both, all_of_first, all_of_second}
 use Rattle.cfgx_grammar.specs.Question.{Question}
-use Rattle.cfgx_grammar.specs.Tree.{Tree, Trees, asked, count}
+use Rattle.cfgx_grammar.specs.Tree.{Tree, Trees, asked, asked_by, count, is_function, is_leaf}
 use Rattle.cfg_expr.proofs.AskedPredicates.{NamePredicates-kept, filter_map-some}
 use Rattle.cfg_expr.proofs.AskedPredicates.{questions_at-kept}
 use Rattle.cfgx_parser.proofs.Places.{read-places}
@@ -27,6 +30,7 @@ use Rattle.cfg_expr.specs.Located.{AreLocated, AreTakenFrom, IsTakenFrom, Locate
 use Rattle.cfg_expr.specs.Located.{each_in_text_order, in_text_order, inside_span}
 use Rattle.cfg_expr.specs.Located.{located_predicate, token_span, tree_map, trees_map}
 use Rattle.cfg_expr.specs.nodes.LocatedNode.{located_at, of_node}
+use Rattle.cfg_expr.specs.declared.expr.located.LocatedPredicate.{LocatedPredicate}
 
 -- Nodes whose images are those of a tree are those of a tree.
 
@@ -185,25 +189,33 @@ listed_all nodes located is =
     (predicate_at-leaf nodes place inner (rw is at leaf))) in
     filter_map-some _ (places 0 located) _ (reads ∙ map-some of_node (asked located))
 
+-- the whole predicate lies in the text
+abbrev pub Lies : List ℕ → LocatedPredicate → Type 0
+Lies text p = LiesIn text p.span.start p.span.end
+
 kind_same : (text : List ℕ) (p : Located) → (of_node p).kind ≡ kind_of (question_at text p)
 kind_same text p = grind arith
 
-Locates-of : (text : List ℕ) (p : Located) → HasCut text p
+Locates-of : (text : List ℕ) (p : Located) → HasCut text p → Lies text (of_node p)
     → Locates text (question_at text p) (of_node p)
-Locates-of text p cut = record {
+Locates-of text p cut lies = record {
   kind = grind arith;
   number = grind arith;
   key = record { cut = grind arith; are = grind arith };
   value = record { cut = grind arith; are = grind arith };
-  inside = (omega (arith, cut.0.ordered, cut.0.inside), cut.2);
+  lies = lies;
 }
 
 listed_each : (text : List ℕ) (nodes : List ExprNode) (asks : List ℕ)
-    → NamePredicates text nodes asks
+    → NamePredicates text nodes asks → AllByRecursion (Lies text) (located_at nodes asks)
     → AllZip (Locates text) (questions_at text nodes asks) (located_at nodes asks)
-listed_each text nodes [] names = tt
-listed_each text nodes (place ∷ asks) names = rw names.0.stands
-    (Locates-of text names.0.predicate names.0.cut, listed_each text nodes asks names.1)
+listed_each text nodes [] names lie = tt
+listed_each text nodes (place ∷ asks) names lie =
+    let here = rw names.0.stands at lie in
+    rw names.0.stands (
+      Locates-of text names.0.predicate names.0.cut here.0,
+      listed_each text nodes asks names.1 here.1,
+    )
 
 -- The predicates of nodes are read from the tokens.
 
@@ -272,6 +284,63 @@ module _ (text : List ℕ) where
   taken_each from items (Node.function func len ∷ nodes) are read =
       taken_each from items nodes are read
 
+  -- predicates that are taken from the tokens of the text lie in it
+  taken_lies : (from : ℕ) (own after : List Item) (p : LocatedPredicate)
+      → ItemsFrom text from (own ++ after) Ending.blank → IsTakenFrom own p → Lies text p
+  taken_lies from _ after _ are (IsTakenFrom.key x name question is classed) =
+      record { ordered = are.0.ordered; inside = are.0.inside }
+  taken_lies from _ after _ are (IsTakenFrom.value x y z name value question x_is z_is classed) =
+      let y_at = are.1.0 in
+      let z_at = are.1.1.0 in record {
+        ordered = omega (
+          arith,
+          are.0.ordered,
+          y_at.comes_after,
+          y_at.ordered,
+          z_at.comes_after,
+          z_at.ordered,
+        );
+        inside = z_at.inside;
+      }
+
+  pub taken_lie : (from : ℕ) (items : List Item) (predicates : List LocatedPredicate)
+      → ItemsFrom text from items Ending.blank → AreTakenFrom items predicates
+      → AllByRecursion (Lies text) predicates
+  taken_lie from items [] are taken = tt
+  taken_lie from items (one ∷ others) are (before, own, after, split, is, rest) =
+      let (start, here) = items_behind from before (own ++ after) (subst
+      (λ l. ItemsFrom text from l Ending.blank) split are) in
+      let (next, behind) = items_behind start own after here in
+      (taken_lies start own after one here is, taken_lie next after others behind rest)
+
+-- What holds of all leaves holds of them in the order of asking.
+
+module _ {X : Type 0} (P : X → Type 0) where
+  if_asked : (is_so : Bool) (xs : List X) → AllByRecursion P xs
+      → AllByRecursion P (if is_so then xs else [])
+  if_asked true xs all = all
+  if_asked false xs all = tt
+
+  mutual
+    all_asked : (tree : Tree X) → AllByRecursion P (in_text_order tree)
+        → AllByRecursion P (asked tree)
+    all_asked (Tree.leaf x) all = all
+    all_asked (Tree.literal truth) all = tt
+    all_asked (Tree.list function trees) all =
+        all_of_both P (asked_by is_function trees) (asked_by is_leaf trees)
+        (all_asked_by is_function trees all) (all_asked_by is_leaf trees all)
+    all_asked (Tree.not tree) all = all_asked tree all
+
+    all_asked_by : (test : Tree X → Bool) (trees : Trees X)
+        → AllByRecursion P (each_in_text_order trees) → AllByRecursion P (asked_by test trees)
+    all_asked_by test Trees.none all = tt
+    all_asked_by test (Trees.more tree trees) all =
+        all_of_both P _ (asked_by test trees)
+        (if_asked (test tree) (asked tree) (all_asked tree
+        (all_of_first P (in_text_order tree) (each_in_text_order trees) all)))
+        (all_asked_by test trees
+        (all_of_second P (in_text_order tree) (each_in_text_order trees) all))
+
 pub AreLocated-kept : (text : List ℕ) (nodes : List ExprNode) (asks : List ℕ)
     → KeepsOneTree text nodes asks → AreLocated text (located_at nodes asks)
 AreLocated-kept text nodes asks kept =
@@ -279,18 +348,25 @@ AreLocated-kept text nodes asks kept =
     (map inner_node nodes) (node_map-inner text nodes ∙ kept.keeps.nodes_are) in
     let asks_are : asks ≡ places 0 from =
     kept.keeps.places_are ∙ sym (places-shape from kept.one.tree alike) in
+    let listed = ap (located_at nodes) asks_are ∙ listed_all nodes from is
+    ∙ asked_map of_node from in
+    let taken = subst (AreTakenFrom kept.read.items)
+    (ap (leaves of_node) (sym is) ∙ leaves-prefix of_node from)
+    (taken_each text 0 kept.read.items (map inner_node nodes) kept.read.are_items
+    kept.read.read) in
+    let lie = taken_lie text 0 kept.read.items (in_text_order (tree_map of_node from))
+    kept.read.are_items taken in
     record {
       one = kept.one;
       each = rw (← questions_at-kept kept.keeps)
-          (listed_each text nodes asks (NamePredicates-kept kept.keeps));
+          (listed_each text nodes asks (NamePredicates-kept kept.keeps)
+          (subst (AllByRecursion (Lies text)) (sym listed)
+          (all_asked (Lies text) (tree_map of_node from) lie)));
       located = tree_map of_node from;
       kinds = same_images (question_at text) of_node (λ p. p.kind) kind_of (kind_same text)
           from kept.one.tree alike;
-      listed = ap (located_at nodes) asks_are ∙ listed_all nodes from is ∙ asked_map of_node from;
+      listed = listed;
       items = kept.read.items;
       are_items = kept.read.are_items;
-      taken = subst (AreTakenFrom kept.read.items)
-          (ap (leaves of_node) (sym is) ∙ leaves-prefix of_node from)
-          (taken_each text 0 kept.read.items (map inner_node nodes) kept.read.are_items
-          kept.read.read);
+      taken = taken;
     }

@@ -1,4 +1,5 @@
-pub mod Counts
-pub mod Stack
-pub mod Values
-pub mod Written
+-- What steps are, and which value they have.
+pub mod Forests
+pub mod Items
+pub mod Numbers
+pub mod Stepping

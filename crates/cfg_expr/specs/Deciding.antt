@@ -4,7 +4,7 @@ use Rattle.std.specs.Prelude.{◌≡◌, ℕ, Bool, true, false, List, Option, S
 use Rattle.cfgx_grammar.specs.Answer.{HasOneTree}
 use Rattle.cfgx_grammar.specs.Tree.{Tree, asked}
 use Rattle.cfg_expr.specs.Fold.{tree_fold}
-use Rattle.cfg_expr.specs.Filling.{IsExact, PolarFillings, polar, three_valued}
+use Rattle.cfg_expr.specs.Filling.{IsExact, PolarFillings, filling_bytes, polar, three_valued}
 use Rattle.cfg_expr.specs.declared.expr.Decision.{Decision}
 use Rattle.cfg_expr.specs.declared.expr.Decision.TheVariants as decision
 
@@ -47,6 +47,13 @@ Decides text answers given = (one : HasOneTree text) × DecidesExactly one.tree 
 abbrev pub AreFillings : {A : Type 0} → List ℕ → List (Option Bool)
     → Option (Vec Bool A × Vec Bool A) → Type 0
 AreFillings text answers found = (one : HasOneTree text) × PolarFillings one.tree answers found
+
+-- what `write_fillings` promises: these are the bytes of both polar fillings of the text's one tree
+pub record AreFillingBytes (text : List ℕ) (answers : List (Option Bool))
+    (if_true if_false : List ℕ) : Type 0 where
+  pub one : HasOneTree text
+  pub true_is : if_true ≡ filling_bytes (polar one.tree answers true)
+  pub false_is : if_false ≡ filling_bytes (polar one.tree answers false)
 
 -- the text has one tree, which is exact over any answers to it
 abbrev pub IsExactOverAll : List ℕ → Type 0

@@ -1,7 +1,7 @@
 -- Answers that may be unknown, and the fillings of the unknown ones.
 -- Source: Kleene's strong logic, in which a value is known if every filling leads to it, where each
 -- occurrence is filled by itself.
-use Rattle.std.specs.Prelude.{◌≡◌, ◌↔◌, Bool, true, false, not, List}
+use Rattle.std.specs.Prelude.{◌≡◌, ◌↔◌, ℕ, Bool, true, false, not, List}
 use Rattle.std.specs.Prelude.{Option, Some, None, Vec, map, unwrap_or, zip}
 use Rattle.std.specs.List.{AllZip}
 use Rattle.cfgx_syntax.specs.contracts.logic.BoolLogic.TheImpl as bool_logic
@@ -24,6 +24,15 @@ Agrees (Some answer) filled = filled ≡ answer
 -- there is one truth value for each answer, and it is the answer if that is known
 abbrev pub IsFilling : List (Option Bool) → List Bool → Type 0
 IsFilling answers filling = AllZip Agrees answers filling
+
+-- if the answer is known, the later one is the same
+abbrev pub StaysKnown : Option Bool → Option Bool → Type 0
+StaysKnown None later = Unit {0}
+StaysKnown (Some answer) later = later ≡ Some answer
+
+-- there is one later answer for each answer, and it is the same if that is known
+abbrev pub KeepsKnown : List (Option Bool) → List (Option Bool) → Type 0
+KeepsKnown answers later = AllZip StaysKnown answers later
 
 -- the tree with each predicate replaced by its polarity: `polarity`, negated once for each `not`
 -- around the predicate
@@ -48,6 +57,15 @@ filled_by answers others = map (λ x. unwrap_or x.0 x.1) (zip answers others)
 -- even number of `not`, and with its opposite below an odd number.
 abbrev pub polar : {X : Type 0} → Tree X → List (Option Bool) → Bool → List Bool
 polar tree answers fill = filled_by answers (asked (polarities fill tree))
+
+-- a truth value as a byte
+abbrev pub truth_byte : Bool → ℕ
+truth_byte false = 0
+truth_byte true = 1
+
+-- the truth values of a filling as bytes
+abbrev pub filling_bytes : List Bool → List ℕ
+filling_bytes filling = map truth_byte filling
 
 -- the value in three values is exact, by the fillings of the answers
 pub record IsExact {X : Type 0} (tree : Tree X) (answers : List (Option Bool)) : Type 0 where

@@ -1,12 +1,13 @@
 -- Where the predicates of a condition stand in its text.
-use Rattle.std.specs.Prelude.{◌≡◌, ◌≤◌, ℕ, ◌+◌, ◌-◌, List, [], ◌∷◌, ◌++◌, Option, Some, None}
-use Rattle.std.specs.Prelude.{length, option_map}
+use Rattle.std.specs.Prelude.{◌≡◌, ℕ, ◌+◌, ◌-◌, List, [], ◌∷◌, ◌++◌, Option, Some, None}
+use Rattle.std.specs.Prelude.{option_map}
 use Rattle.std.specs.List.{AllZip}
 use Rattle.cfgx_fields.specs.declared.atomic.HasAtomic.{HasAtomic}
 use Rattle.cfgx_fields.specs.declared.atomic.HasAtomic.TheVariants as atomic
 use Rattle.cfgx_fields.specs.declared.endian.Endian.{Endian}
 use Rattle.cfgx_fields.specs.declared.endian.Endian.TheVariants as endian
 use Rattle.cfgx_syntax.specs.Items.{AreItems, Ending, Item}
+use Rattle.cfgx_syntax.specs.Spans.{LiesIn}
 use Rattle.cfgx_syntax.specs.Token.{Token}
 use Rattle.cfgx_grammar.specs.Answer.{HasOneTree}
 use Rattle.cfgx_grammar.specs.Classification.{class, predicate}
@@ -28,57 +29,57 @@ atomic_number (atomic.IntegerSize bits) = bits
 atomic_number atomic.Pointer = 65536
 
 -- the number of a predicate on the target: that of a width, of an atomic or of a byte order, else 0
-abbrev pub target_number : TargetQuestion → ℕ
-target_number (TargetQuestion.endian order) = endian_number order
-target_number (TargetQuestion.has_atomic width) = atomic_number width
-target_number (TargetQuestion.pointer_width width) = width
-target_number _ = 0
+abbrev pub target_predicate_number : TargetQuestion → ℕ
+target_predicate_number (TargetQuestion.endian order) = endian_number order
+target_predicate_number (TargetQuestion.has_atomic width) = atomic_number width
+target_predicate_number (TargetQuestion.pointer_width width) = width
+target_predicate_number _ = 0
 
 -- the number of a predicate, and 0 if it is no `Question.target`
-abbrev pub number_of : Question → ℕ
-number_of (Question.target question) = target_number question
-number_of _ = 0
+abbrev pub predicate_number : Question → ℕ
+predicate_number (Question.target question) = target_predicate_number question
+predicate_number _ = 0
 
 -- the key, if the kind does not say it
-abbrev pub key_text : Question → Option (List ℕ)
-key_text (Question.flag key) = Some key
-key_text (Question.key_value key value) = Some key
-key_text _ = None
+abbrev pub key_with_span : Question → Option (List ℕ)
+key_with_span (Question.flag key) = Some key
+key_with_span (Question.key_value key value) = Some key
+key_with_span _ = None
 
 -- the value, if there is one and the number does not say it
-abbrev pub value_text : Question → Option (List ℕ)
-value_text (Question.target (TargetQuestion.text key text)) = Some text
-value_text (Question.feature text) = Some text
-value_text (Question.target_feature text) = Some text
-value_text (Question.key_value key value) = Some value
-value_text _ = None
+abbrev pub value_with_span : Question → Option (List ℕ)
+value_with_span (Question.target (TargetQuestion.text key text)) = Some text
+value_with_span (Question.feature text) = Some text
+value_with_span (Question.target_feature text) = Some text
+value_with_span (Question.key_value key value) = Some value
+value_with_span _ = None
 
 -- the text can be cut at both ends of the span, if there is one
-abbrev pub CanBeCut : List ℕ → Option Span → Type 0
-CanBeCut text None = Unit {0}
-CanBeCut text (Some span) = IsSpan text span
+abbrev pub IsSpanIfAny : List ℕ → Option Span → Type 0
+IsSpanIfAny text None = Unit {0}
+IsSpanIfAny text (Some span) = IsSpan text span
 
 -- these bytes stand at the span, at whose ends the text can be cut; or there are none, and no span
 pub record StandAt (text : List ℕ) (bytes : Option (List ℕ)) (span : Option Span) : Type 0 where
-  pub cut : CanBeCut text span
+  pub cut : IsSpanIfAny text span
   pub are : option_map (at text) span ≡ bytes
 
 -- the predicate asks the question, has the spans of its texts, and lies in the text
 pub record Locates (text : List ℕ) (question : Question) (predicate : LocatedPredicate) : Type 0
   where
     pub kind : predicate.kind ≡ kind_of question
-    pub number : predicate.number ≡ number_of question
-    pub key : StandAt text (key_text question) predicate.key
-    pub value : StandAt text (value_text question) predicate.value
-    pub inside : (predicate.span.start ≤ length text) × (predicate.span.end ≤ length text)
+    pub number : predicate.number ≡ predicate_number question
+    pub key : StandAt text (key_with_span question) predicate.key
+    pub value : StandAt text (value_with_span question) predicate.value
+    pub lies : LiesIn text predicate.span.start predicate.span.end
 
 -- the predicate with these spans of its key, of its value and of the whole
 abbrev pub located_predicate : Span → Span → Span → Question → LocatedPredicate
 located_predicate key value whole question = record {
   kind = kind_of question;
-  number = number_of question;
-  key = option_map (λ _. key) (key_text question);
-  value = option_map (λ _. value) (value_text question);
+  number = predicate_number question;
+  key = option_map (λ _. key) (key_with_span question);
+  value = option_map (λ _. value) (value_with_span question);
   span = whole;
 }
 

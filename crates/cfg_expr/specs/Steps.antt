@@ -1,26 +1,25 @@
--- A condition as steps, and how steps are run with a stack of values.
--- Source: reverse Polish notation, in which a function stands behind its members.
-use Rattle.std.specs.Prelude.{◌≡◌, ◌≢◌, ◌<◌, ◌++◌, ℕ, Bool, List, [], ◌∷◌, Option, Some, None}
-use Rattle.std.specs.Prelude.{drop, false, if◌then◌else◌, length, map, nat_eq, nat_le}
-use Rattle.std.specs.Prelude.{option_and_then}
-use Rattle.std.specs.Prelude.{reverse, take, true}
-use Rattle.std.specs.{Cmp.Lexicographic.pointwise, Ordering.on}
+-- A condition as steps, which are the nodes of its tree, and the value of steps over answers.
+-- Source: Polish notation, in which a function stands in front of its members.
+use Rattle.std.specs.Prelude.{◌≡◌, ◌≢◌, ◌<◌, ◌++◌, ℕ, Bool, List, [], ◌∷◌, count_by, false}
+use Rattle.std.specs.Prelude.{get_or, length, map, nat_eq, true}
+use Rattle.std.specs.{Cmp.Lexicographic.pointwise, List.{AllByRecursion, range_with_len}, Ordering.on}
 use Rattle.cfgx_grammar.specs.Answer.{HasOneTree}
-use Rattle.cfg_expr.specs.Fold.{Operations, list_value, literal_value}
-use Rattle.cfgx_grammar.specs.Tree.{ListFunction, Tree, Trees, count, is_function, is_leaf}
+use Rattle.cfgx_grammar.specs.Tree.{ListFunction, Tree, Trees, asked, count}
+use Rattle.cfgx_parser.specs.declared.function.Func.TheVariants.{Not, All, Any}
+use Rattle.cfg_expr.specs.Fold.{Operations, answered, tree_value}
 use Rattle.cfg_expr.specs.declared.expr.steps.Step.{Step}
-use Rattle.cfg_expr.specs.declared.expr.steps.Step.TheVariants.{Ask, Literal, Not, All, Any}
+use Rattle.cfg_expr.specs.declared.expr.steps.Step.TheVariants.{Ask, Literal, Function}
 use Rattle.cfg_expr.specs.declared.expr.steps.StepsError.{StepsError}
 use Rattle.cfg_expr.specs.declared.expr.steps.StepsError.TheVariants as error
 
 -- a list that no other step has: the number of the case, and then the number that the step has
 abbrev pub step_code : Step → List ℕ
-step_code Ask = 0 ∷ []
+step_code (Ask number) = 0 ∷ number ∷ []
 step_code (Literal false) = 1 ∷ []
 step_code (Literal true) = 2 ∷ []
-step_code Not = 3 ∷ []
-step_code (All n) = 4 ∷ n ∷ []
-step_code (Any n) = 5 ∷ n ∷ []
+step_code (Function Not) = 3 ∷ []
+step_code (Function (All n)) = 4 ∷ n ∷ []
+step_code (Function (Any n)) = 5 ∷ n ∷ []
 
 -- whether two steps are the same
 abbrev pub step_eq : Step → Step → Bool
@@ -28,24 +27,29 @@ step_eq = on step_code (pointwise nat_eq)
 
 -- the step of `all` or `any` with `n` members
 abbrev pub list_step : ListFunction → ℕ → Step
-list_step ListFunction.all n = All n
-list_step ListFunction.any n = Any n
+list_step ListFunction.all n = Function (All n)
+list_step ListFunction.any n = Function (Any n)
 
--- the steps of a tree: those of the arranged members of a function, one after another, and then its
--- own
+-- the steps of a tree of numbers, as its nodes stand in the text: the step of a function, and then
+-- those of its members
 abbrev mutual
-  pub steps_of : {X : Type 0} → Tree X → List Step
-  steps_of (Tree.leaf x) = Ask ∷ []
-  steps_of (Tree.literal truth) = Literal truth ∷ []
-  steps_of (Tree.list function trees) = steps_by is_function trees ++ steps_by is_leaf trees
-      ++ list_step function (count trees) ∷ []
-  steps_of (Tree.not tree) = steps_of tree ++ Not ∷ []
+  pub steps : Tree ℕ → List Step
+  steps (Tree.leaf number) = Ask number ∷ []
+  steps (Tree.literal truth) = Literal truth ∷ []
+  steps (Tree.list function trees) = list_step function (count trees) ∷ steps_each trees
+  steps (Tree.not tree) = Function Not ∷ steps tree
 
-  -- the steps of those trees of a list that pass the test, one tree after another
-  pub steps_by : {X : Type 0} → (Tree X → Bool) → Trees X → List Step
-  steps_by test Trees.none = []
-  steps_by test (Trees.more tree trees) = (if test tree then steps_of tree else [])
-      ++ steps_by test trees
+  pub steps_each : Trees ℕ → List Step
+  steps_each Trees.none = []
+  steps_each (Trees.more tree trees) = steps tree ++ steps_each trees
+
+-- the tree with the numbers of its predicates: 0, 1, 2 and so on, in the order in which it asks
+abbrev pub numbered : {X : Type 0} → Tree X → Tree ℕ
+numbered tree = let count = length (asked tree) in answered count tree (range_with_len 0 count)
+
+-- the steps of a tree
+abbrev pub steps_of : {X : Type 0} → Tree X → List Step
+steps_of tree = steps (numbered tree)
 
 -- the steps of the text's one tree
 abbrev pub AreSteps : List ℕ → List Step → Type 0
@@ -59,43 +63,44 @@ AreStepsAs form text steps = (one : HasOneTree text) × (steps ≡ map form (ste
 abbrev pub HasSteps : List ℕ → ℕ → Type 0
 HasSteps text n = (one : HasOneTree text) × (n ≡ length (steps_of one.tree))
 
+-- whether a step asks for an answer
+abbrev pub is_ask : Step → Bool
+is_ask (Ask number) = true
+is_ask (Literal truth) = false
+is_ask (Function func) = false
+
+-- there are as many answers as steps that ask
+abbrev pub AreCounted : {T : Type 0} → List Step → List T → Type 0
+AreCounted all answers = length answers ≡ count_by is_ask all
+
+-- the tree with `f` of each leaf
+abbrev mutual
+  pub mapped : {X Y : Type 0} → (X → Y) → Tree X → Tree Y
+  mapped f (Tree.leaf x) = Tree.leaf (f x)
+  mapped f (Tree.literal truth) = Tree.literal truth
+  mapped f (Tree.list function trees) = Tree.list function (mapped_each f trees)
+  mapped f (Tree.not tree) = Tree.not (mapped f tree)
+
+  pub mapped_each : {X Y : Type 0} → (X → Y) → Trees X → Trees Y
+  mapped_each f Trees.none = Trees.none
+  mapped_each f (Trees.more tree trees) = Trees.more (mapped f tree) (mapped_each f trees)
+
 module _ {T : Type 0} (logic : Operations T) where
-  -- The stack after `n` values are popped and their joined value is pushed: none if there are
-  -- fewer. Its first value is its top.
-  abbrev pub join_top : ListFunction → ℕ → List T → Option (List T)
-  join_top function n stack = if nat_le n (length stack)
-      then Some (list_value logic function (reverse (take n stack)) ∷ drop n stack) else None
+  -- the answer that has this number, counted from 0
+  abbrev pub answer_at : List T → ℕ → T
+  answer_at answers number = get_or answers number logic.top
 
-  -- The value that steps give over answers, with a stack of values. There is one if each step that
-  -- asks has an answer, no step pops more values than there are, and at the end no answer and
-  -- exactly one value are left.
-  abbrev pub run_steps : List Step → List T → List T → Option T
-  run_steps [] [] (value ∷ []) = Some value
-  run_steps [] answers stack = None
-  run_steps (Ask ∷ steps) (answer ∷ answers) stack = run_steps steps answers (answer ∷ stack)
-  run_steps (Ask ∷ steps) [] stack = None
-  run_steps (Literal truth ∷ steps) answers stack =
-      run_steps steps answers (literal_value logic truth ∷ stack)
-  run_steps (Not ∷ steps) answers (value ∷ stack) =
-      run_steps steps answers (logic.not value ∷ stack)
-  run_steps (Not ∷ steps) answers [] = None
-  run_steps (All n ∷ steps) answers stack =
-      option_and_then (run_steps steps answers) (join_top ListFunction.all n stack)
-  run_steps (Any n ∷ steps) answers stack =
-      option_and_then (run_steps steps answers) (join_top ListFunction.any n stack)
-
-  -- over no answers do the steps have a value
-  abbrev pub HaveNoValue : List Step → Type 0
-  HaveNoValue steps = (answers : List T) → run_steps steps answers [] ≡ None
-
-  -- the steps have a value over another number of answers
-  pub record AreMiscounted (steps : List Step) (answers : List T) : Type 0 where
-    pub others : List T
-    pub has : run_steps steps others [] ≢ None
-    pub differ : length answers ≢ length others
+  -- The steps are those of a tree, each number in it is that of an answer, and this is the value of
+  -- the tree with the answers in place of their numbers.
+  pub record HasValue (all : List Step) (answers : List T) (value : T) : Type 0 where
+    pub tree : Tree ℕ
+    pub are : all ≡ steps tree
+    pub inside : AllByRecursion (λ number. number < length answers) (asked tree)
+    pub value_is : value ≡ tree_value logic (mapped (answer_at answers) tree)
 
   -- why steps have no value over answers
   abbrev pub Fail : List Step → List T → StepsError → Type 0
-  Fail steps answers error.NoValue = HaveNoValue steps
-  Fail steps answers error.Miscounted = AreMiscounted steps answers
-  Fail steps answers (error.Memory refused) = 33 < length steps
+  Fail all answers error.Miscounted = length answers ≢ count_by is_ask all
+  Fail all answers error.NoValue =
+      AreCounted all answers × ((value : T) → HasValue all answers value → ⊥)
+  Fail all answers (error.Memory refused) = 33 < length all

@@ -1,8 +1,6 @@
 -- How the nodes of a condition are evaluated and located, how its answers are filled, and how steps
--- are made and run. Internal: no public contract cites this.
+-- are written and read. Internal: no public contract cites this.
 pub mod AnswerSlots
 pub mod LocatedNode
 pub mod Parity
 pub mod Reading
-pub mod StepStack
-pub mod StepWriting

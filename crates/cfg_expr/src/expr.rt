@@ -38,7 +38,7 @@ pub use spelling::spell;
 use std::alloc::{AllocError, Allocator, Global};
 use std::fmt;
 use std::marker::Model;
-pub use steps::{FromStep, Step, StepsError, eval_steps, steps_of};
+pub use steps::{FromStep, Step, StepsError, eval_steps};
 
 /// A parsed condition. Contracts see it as its stripped text.
 #[derive(Drop)]
@@ -76,18 +76,6 @@ pub enum Decision<A: Allocator = Global> {
         /// A filling with which the condition is false
         if_false: Vec<bool, A>,
     },
-}
-
-/// Returns `Decision::Known(false)`, which takes no memory.
-impl<A: Allocator> Default for Decision<A> {
-    ghost use Rattle.std.specs.Prelude.{◌≡◌, false};
-    ghost use Rattle.cfg_expr.specs.declared.expr.Decision.TheVariants.{Known};
-
-    ghost is_default = { λ decision. decision ≡ Known false };
-
-    fn default() -> Self {
-        Decision::Known(false)
-    }
 }
 
 impl<A: Allocator> Expression<A> {
@@ -150,7 +138,8 @@ impl<A: SmallAllocator> Expression<A> {
     ///
     /// # Errors
     ///
-    /// `Failure::Parse`: the first fault of the text. `Failure::Memory`: `alloc` refused memory.
+    /// `Failure::Parse`: the first fault of the text, whose span lies in the text without an outer
+    /// `cfg( )`. `Failure::Memory`: `alloc` refused memory.
     pub fn parse(alloc: A, text: &str) -> Result<Self, Failure<A>>
         ensures { Answers (strip text.now) result }
     {
@@ -238,7 +227,7 @@ impl<A: SmallAllocator> Expression<A> {
         ensures exact { IsExactOverAll self.now }
         ensures decision { IfOk result (Decides self.now answers.now) }
     {
-        let mut decision = Decision::default();
+        let mut decision = Decision::Known(false);
         self.condition().decide(alloc, answers, &mut decision)?;
         Ok(decision)
     }
@@ -281,11 +270,12 @@ impl<A: SmallAllocator> Expression<A> {
         self.condition().eval_lanes(alloc, answers)
     }
 
-    /// Compiles the condition to steps, which ask its predicates in the order of `predicates`. Run
-    /// with a stack, by `eval_steps` or by a loop in any language, they give what `eval` gives.
+    /// Compiles the condition to steps. Read from the last to the first with a stack, by
+    /// `eval_steps` or by a loop in any language, they give what `eval` gives.
     ///
-    /// A predicate, a literal and a function are one step each, and the step of a function comes
-    /// after those of its members: first its functions, and then its predicates and literals.
+    /// A predicate, a literal and a function are one step each, as they stand in the text: the step
+    /// of a function comes before those of its members. A step that asks has the number of its
+    /// predicate in the order of `predicates`.
     ///
     /// # Errors
     ///

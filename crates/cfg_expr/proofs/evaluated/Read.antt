@@ -1,283 +1,209 @@
--- The nodes of a tree whose leaves are answers, read from the last to the first, leave its value.
-use Rattle.std.proofs.Common.{◌≡◌, ◌+◌, ◌≤◌, ◌<◌, ◌++◌, Bool, ℕ, zero, suc, List, [], ◌∷◌, length}
-use Rattle.std.proofs.Common.{map}
-use Rattle.std.proofs.Common.{take, drop, get_or, sym, refl, ap, ◌∙◌, arith, Some}
-use Rattle.std.proofs.{Common.length-append, Math.Seq.drop-append_seam, Math.Seq.take-append_seam}
-use Rattle.std.proofs.lemmas.List.{append-nil, drop-drop, get_or-drop, get_or-map, get_or-take}
-use Rattle.std.proofs.lemmas.List.{drop-map, length-map, map-append, take-take}
-use Rattle.std.proofs.{Common.length-drop, Math.Seq.drop-length}
-use Rattle.std.proofs.lemmas.Grind.{flat_map-append}
-use Rattle.std.specs.List.{flat_map}
+-- The items of a tree whose leaves are answers, read from the last to the first, leave its value.
+use Rattle.std.proofs.Common.{◌≡◌, ◌+◌, ◌≤◌, ◌<◌, ◌++◌, ℕ, zero, suc, List, [], ◌∷◌, length, map}
+use Rattle.std.proofs.Common.{take, drop, get_or, sym, refl, ap, ◌∙◌, arith, append_assoc, Some}
+use Rattle.std.proofs.Common.{None, length-append, option_and_then}
+use Rattle.std.proofs.lemmas.Bool.{le-leb}
+use Rattle.std.proofs.Math.Seq.{drop-length}
+use Rattle.std.proofs.lemmas.List.{append-nil, drop_all, drop_at, drop_more, get_or-map}
+use Rattle.std.proofs.lemmas.List.{get_or-take, length-map, map-append, take-take, take_at}
+use Rattle.std.proofs.lemmas.Simd.{get_or-zip2, length-zip2, zip2_of_maps}
+use Rattle.std.specs.{List.filter_map}
 use Rattle.cfgx_grammar.specs.Tree.{ListFunction, Tree, Trees, is_function, is_leaf, count}
 use Rattle.cfg_expr.specs.Fold.{Operations, literal_value, tree_value, values_by}
+use Rattle.cfgx_parser.specs.Order.{func_members}
 use Rattle.cfgx_parser.specs.nodes.Prefix.{Node, list_func, prefix, prefix_each}
-use Rattle.cfgx_parser.specs.nodes.Shape.{Shape, shape, shape_of}
+use Rattle.cfgx_parser.specs.nodes.Shape.{shape, shape_of}
+use Rattle.cfgx_parser.specs.declared.function.Func.{Func}
 use Rattle.cfgx_parser.specs.declared.function.Func.TheVariants.{Not}
 use Rattle.cfgx_parser.specs.declared.nodes.ExprNode.{ExprNode}
-use Rattle.cfg_expr.specs.nodes.Reading.{Slot, HoldsAnswers, IsNext, entries, entry, first_shape}
-use Rattle.cfg_expr.specs.nodes.Reading.{first_slot}
-use Rattle.cfg_expr.specs.nodes.Reading.{joined, listed, members, slot_of, slot_value, top_value}
-use Rattle.cfg_expr.specs.nodes.Reading.{values_in}
-use Rattle.cfg_expr.specs.declared.expr.evaluating.Connective.{Connective, TheVariants.{And, Or}}
-use Rattle.cfg_expr.specs.declared.expr.evaluating.Form.TheVariants as form
+use Rattle.cfg_expr.specs.nodes.Reading.{HoldsAnswers, Item, Slot, applied, apply, as_function}
+use Rattle.cfg_expr.specs.nodes.Reading.{as_leaf, entries, item, items, nodes_value, push_item}
+use Rattle.cfg_expr.specs.nodes.Reading.{read, slot_of, slot_value, value_alone}
 use Rattle.cfg_expr.specs.declared.expr.evaluating.Slot.TheVariants as slot
 use Rattle.cfg_expr.specs.declared.expr.evaluating.Stack.{Stack}
 
-module _ {X : Type 0} where
-  -- the trees without the first of their nodes, and without this number of nodes
-  abbrev rest_of : List (Tree X) → List (Tree X)
-  rest_of [] = []
-  rest_of (tree ∷ trees) = members tree ++ trees
-
-  abbrev pub left : ℕ → List (Tree X) → List (Tree X)
-  left zero trees = trees
-  left (suc n) trees = rest_of (left n trees)
-
-  nodes-listed : (trees : Trees X) → flat_map prefix (listed trees) ≡ prefix_each trees
-  nodes-listed Trees.none = refl
-  nodes-listed (Trees.more tree trees) = ap (λ l. prefix tree ++ l) (nodes-listed trees)
-
-  nodes-rest : (trees : List (Tree X))
-      → flat_map prefix (rest_of trees) ≡ drop 1 (flat_map prefix trees)
-  nodes-rest [] = refl
-  nodes-rest (Tree.list function trees ∷ others) =
-      rw (flat_map-append prefix (listed trees) others, nodes-listed trees) refl
-  nodes-rest (tree ∷ trees) = refl
-
-  nodes-left : (n : ℕ) (trees : List (Tree X))
-      → flat_map prefix (left n trees) ≡ drop n (flat_map prefix trees)
-  nodes-left zero trees = refl
-  nodes-left (suc n) trees =
-      let next : n + 1 ≡ suc n = omega arith in
-      nodes-rest (left n trees) ∙ ap (drop 1) (nodes-left n trees)
-      ∙ drop-drop 1 n (flat_map prefix trees) ∙ ap (λ many. drop many (flat_map prefix trees)) next
-
-  first-shape : (tree : Tree X) (others : List (Node X)) (otherwise : Shape)
-      → get_or (map shape_of (prefix tree ++ others)) 0 otherwise ≡ first_shape tree
-  first-shape (Tree.leaf x) others otherwise = refl
-  first-shape (Tree.literal truth) others otherwise = refl
-  first-shape (Tree.list function trees) others otherwise = refl
-  first-shape (Tree.not tree) others otherwise = refl
-
-first-slot : {T : Type 0} (tree : Tree T) (others : List (Node T)) (otherwise : Slot T)
-    → get_or (map slot_of (prefix tree ++ others)) 0 otherwise ≡ first_slot tree
-first-slot (Tree.leaf x) others otherwise = refl
-first-slot (Tree.literal truth) others otherwise = refl
-first-slot (Tree.list function trees) others otherwise = refl
-first-slot (Tree.not tree) others otherwise = refl
-
--- the tree that begins at a place, and those behind it
-pub record Begins {X : Type 0} (tree : Tree X) (place : ℕ) (first : Tree X)
-    (others : List (Tree X)) : Type 0 where
-  pub trees : left place (tree ∷ []) ≡ first ∷ others
-  pub nodes : drop place (prefix tree) ≡ prefix first ++ flat_map prefix others
-
-begins : {X : Type 0} (tree : Tree X) (place : ℕ) → place < length (prefix tree)
-    → (first : Tree X) × (others : List (Tree X)) × Begins tree place first others
-begins {X} tree place inside =
-    by (left place (tree ∷ [])) refl
-  where
-    all : flat_map prefix (left place (tree ∷ [])) ≡ drop place (prefix tree)
-    all = nodes-left place (tree ∷ []) ∙ ap (drop place) (append-nil (prefix tree))
-
-    by : (trees : List (Tree X)) → left place (tree ∷ []) ≡ trees
-        → (first : Tree X) × (others : List (Tree X)) × Begins tree place first others
-    by [] none = let nodes = rw none at all in
-        absurd (omega (arith, inside, ap length nodes, length-drop place (prefix tree)))
-    by (first ∷ others) are =
-        (first, others, record { trees = are; nodes = sym (rw are at all) })
-
--- no tree is left behind the last node
-ends : {X : Type 0} (tree : Tree X) → left (length (prefix tree)) (tree ∷ []) ≡ []
-ends {X} tree = by (left (length (prefix tree)) (tree ∷ [])) (nodes-left (length (prefix tree))
-    (tree ∷ []) ∙ ap (drop (length (prefix tree))) (append-nil (prefix tree))
-    ∙ drop-length (prefix tree))
-  where
-    by : (trees : List (Tree X)) → flat_map prefix trees ≡ [] → trees ≡ []
-    by [] none = refl
-    by (Tree.leaf x ∷ trees) none = absurd (cc)
-    by (Tree.literal truth ∷ trees) none = absurd (cc)
-    by (Tree.list function members ∷ trees) none = absurd (cc)
-    by (Tree.not member ∷ trees) none = absurd (cc)
+-- Reading stands before the node at the place: the stack, and the slots in front of it.
+pub record Reading {T : Type 0} (logic : Operations T) (nodes : List ExprNode)
+    (old : List (Slot T)) (place : ℕ) (stack : Stack T) : Type 0 where
+  pub below : place ≤ stack.begin
+  pub within : stack.begin ≤ length stack.slots.now
+  pub are : read logic (drop place (items logic nodes old)) ≡ Some (entries stack)
+  pub front : take place stack.slots.now ≡ take place old
 
 module _ {T : Type 0} (logic : Operations T) where
-  -- on top it is the value of the tree
-  pub value-entry : (tree : Tree T) → slot_value (entry logic tree) ≡ Some (tree_value logic tree)
+  -- a tree on the stack, and trees, the first one on top
+  abbrev entry : Tree T → Slot T
+  entry (Tree.leaf answer) = slot.Leaf answer
+  entry (Tree.literal truth) = slot.Leaf (literal_value logic truth)
+  entry tree = slot.Function (tree_value logic tree)
+
+  abbrev stacked : Trees T → List (Slot T)
+  stacked Trees.none = []
+  stacked (Trees.more tree trees) = entry tree ∷ stacked trees
+
+  value-entry : (tree : Tree T) → slot_value (entry tree) ≡ Some (tree_value logic tree)
   value-entry (Tree.leaf answer) = refl
   value-entry (Tree.literal truth) = refl
   value-entry (Tree.list function trees) = refl
   value-entry (Tree.not tree) = refl
-
-  abbrev stacked : Trees T → List (Slot T)
-  stacked trees = map (entry logic) (listed trees)
 
   length-stacked : (trees : Trees T) → length (stacked trees) ≡ count trees
   length-stacked Trees.none = refl
   length-stacked (Trees.more tree trees) = ap suc (length-stacked trees)
 
   values-stacked : (trees : Trees T)
-      → (values_in form.Function (stacked trees) ≡ values_by logic is_function trees)
-      × (values_in form.Leaf (stacked trees) ≡ values_by logic is_leaf trees)
+      → (filter_map as_function (stacked trees) ≡ values_by logic is_function trees)
+      × (filter_map as_leaf (stacked trees) ≡ values_by logic is_leaf trees)
   values-stacked Trees.none = (refl, refl)
   values-stacked (Trees.more (Tree.leaf answer) trees) =
+      let others = values-stacked trees in (rw others.0 refl, rw others.1 refl)
+  values-stacked (Trees.more (Tree.literal truth) trees) =
       let others = values-stacked trees in (rw others.0 refl, rw others.1 refl)
   values-stacked (Trees.more tree trees) =
       let others = values-stacked trees in (rw others.0 refl, rw others.1 refl)
 
-  abbrev connective_of : ListFunction → Connective
-  connective_of ListFunction.all = And
-  connective_of ListFunction.any = Or
-
-  joined-stacked : (function : ListFunction) (trees : Trees T)
-      → slot.Function (joined logic (connective_of function) (stacked trees))
-      ≡ entry logic (Tree.list function trees)
-  joined-stacked ListFunction.all trees =
+  applied-stacked : (function : ListFunction) (trees : Trees T)
+      → applied logic (list_func function (count trees)) (stacked trees)
+      ≡ Some (tree_value logic (Tree.list function trees))
+  applied-stacked ListFunction.all trees =
       let values = values-stacked trees in rw (values.0, values.1) refl
-  joined-stacked ListFunction.any trees =
+  applied-stacked ListFunction.any trees =
       let values = values-stacked trees in rw (values.0, values.1) refl
 
-  -- the first of the entries are joined to the tree
-  abbrev Joins : ListFunction → ℕ → Tree T → List (Slot T) → List (Slot T) → Type 0
-  Joins function many tree stack rest = (many ≤ length stack)
-      × (slot.Function (joined logic (connective_of function) (take many stack))
-      ∷ drop many stack ≡ entry logic tree ∷ rest)
+  length-members : (function : ListFunction) (trees : Trees T)
+      → length (stacked trees) ≡ func_members (list_func function (count trees))
+  length-members ListFunction.all trees = length-stacked trees
+  length-members ListFunction.any trees = length-stacked trees
 
-  joins : (function : ListFunction) (many : ℕ) (trees : Trees T) (stack rest : List (Slot T))
-      → many ≡ count trees → stack ≡ stacked trees ++ rest
-      → Joins function many (Tree.list function trees) stack rest
-  joins function many trees stack rest is are =
-      let long : many ≡ length (stacked trees) = is ∙ sym (length-stacked trees) in
-      rw (are, long) (
-        omega (arith, length-append (stacked trees) rest),
-        rw (take-append_seam (stacked trees) rest, drop-append_seam (stacked trees) rest)
-            (ap (λ first. first ∷ rest) (joined-stacked function trees)),
-      )
+  -- the members of a function are on top
+  pub apply-found : (func : Func) (stack : List (Slot T)) (count : ℕ) (value : T)
+      → count ≡ func_members func → count ≤ length stack
+      → applied logic func (take count stack) ≡ Some value
+      → apply logic func stack ≡ Some (slot.Function value ∷ drop count stack)
+  apply-found func stack count value is enough found =
+      rw (← is, le-leb count (length stack) enough, found) refl
 
-  module _ {node : ExprNode} {place : ℕ} {stack : Stack T} where
-    pub next-leaf : (tree : Tree T) (rest : List (Slot T))
-        → IsNext logic node place stack tree rest → shape node ≡ Shape.predicate
-        → get_or stack.slots.now place slot.Empty ∷ entries stack ≡ entry logic tree ∷ rest
-    next-leaf (Tree.leaf x) rest next is = cc (next.slot_is, next.stacked)
-    next-leaf (Tree.literal truth) rest next is = absurd (cc (next.shape_is, is))
-    next-leaf (Tree.list function trees) rest next is = absurd (cc (next.shape_is, is))
-    next-leaf (Tree.not tree) rest next is = absurd (cc (next.shape_is, is))
+  apply-top : (func : Func) (top stack : List (Slot T)) (value : T)
+      → length top ≡ func_members func → applied logic func top ≡ Some value
+      → apply logic func (top ++ stack) ≡ Some (slot.Function value ∷ stack)
+  apply-top func top stack value many found =
+      apply-found func (top ++ stack) (length top) value many
+      (omega (arith, length-append top stack))
+      (rw (take_at top stack (length top) refl) found)
+      ∙ rw (drop_at top stack (length top) refl) refl
 
-    pub next-literal : (truth : Bool) (tree : Tree T) (rest : List (Slot T))
-        → IsNext logic node place stack tree rest → shape node ≡ Shape.literal truth
-        → slot.Leaf (literal_value logic truth) ∷ entries stack ≡ entry logic tree ∷ rest
-    next-literal truth (Tree.leaf x) rest next is = absurd (cc (next.shape_is, is))
-    next-literal truth (Tree.literal other) rest next is = cc (next.shape_is, is, next.stacked)
-    next-literal truth (Tree.list function trees) rest next is = absurd (cc (next.shape_is, is))
-    next-literal truth (Tree.not tree) rest next is = absurd (cc (next.shape_is, is))
+  -- what is read of a node of a tree
+  abbrev pub item_of : Node T → Item T
+  item_of node = item logic (shape_of node) (slot_of node)
 
-    -- the member of `not` is on top
-    pub next-not : (tree : Tree T) (rest : List (Slot T))
-        → IsNext logic node place stack tree rest → shape node ≡ Shape.function Not
-        → (value : T) × (top_value (entries stack) ≡ Some value)
-        × (slot.Function (logic.not value) ∷ drop 1 (entries stack) ≡ entry logic tree ∷ rest)
-    next-not (Tree.leaf x) rest next is = absurd (cc (next.shape_is, is))
-    next-not (Tree.literal truth) rest next is = absurd (cc (next.shape_is, is))
-    next-not (Tree.list ListFunction.all trees) rest next is = absurd (cc (next.shape_is, is))
-    next-not (Tree.list ListFunction.any trees) rest next is = absurd (cc (next.shape_is, is))
-    next-not (Tree.not tree) rest next is =
-        (tree_value logic tree, rw next.stacked (value-entry tree), rw next.stacked refl)
+  mutual
+    read-tree : (tree : Tree T) (rest : List (Item T)) (stack : List (Slot T))
+        → read logic rest ≡ Some stack
+        → read logic (map item_of (prefix tree) ++ rest) ≡ Some (entry tree ∷ stack)
+    read-tree (Tree.leaf answer) rest stack is = rw is refl
+    read-tree (Tree.literal truth) rest stack is = rw is refl
+    read-tree (Tree.list function trees) rest stack is = rw (read-trees trees rest stack is)
+        (apply-top (list_func function (count trees)) (stacked trees) stack _
+        (length-members function trees) (applied-stacked function trees))
+    read-tree (Tree.not tree) rest stack is = rw (read-tree tree rest stack is)
+        (apply-top Not (entry tree ∷ []) stack _ refl (rw (value-entry tree) refl))
 
-    pub next-list : (function : ListFunction) (many : ℕ) (tree : Tree T) (rest : List (Slot T))
-        → IsNext logic node place stack tree rest
-        → shape node ≡ Shape.function (list_func function many)
-        → Joins function many tree (entries stack) rest
-    next-list ListFunction.all many (Tree.list ListFunction.all trees) rest next is =
-        joins ListFunction.all many trees _ rest (cc (next.shape_is, is)) next.stacked
-    next-list ListFunction.any many (Tree.list ListFunction.any trees) rest next is =
-        joins ListFunction.any many trees _ rest (cc (next.shape_is, is)) next.stacked
-    next-list ListFunction.all many tree rest next is = absurd (cc (next.shape_is, is))
-    next-list ListFunction.any many tree rest next is = absurd (cc (next.shape_is, is))
+    read-trees : (trees : Trees T) (rest : List (Item T)) (stack : List (Slot T))
+        → read logic rest ≡ Some stack
+        → read logic (map item_of (prefix_each trees) ++ rest) ≡ Some (stacked trees ++ stack)
+    read-trees Trees.none rest stack is = is
+    read-trees (Trees.more tree trees) rest stack is =
+        rw (map-append item_of (prefix tree) (prefix_each trees), append_assoc)
+        (read-tree tree _ (stacked trees ++ stack) (read-trees trees rest stack is))
 
--- Reading stands before the node at the place: the stack, and the slots in front of it.
-pub record Reading {T : Type 0} (logic : Operations T) (tree : Tree T) (old : List (Slot T))
-    (place : ℕ) (stack : Stack T) : Type 0 where
-  pub below : place ≤ stack.begin
-  pub within : stack.begin ≤ length stack.slots.now
-  pub are : entries stack ≡ map (entry logic) (left place (tree ∷ []))
-  pub front : take place stack.slots.now ≡ take place old
+  -- the items of a tree leave its value
+  pub items-value : (tree : Tree T) → option_and_then value_alone
+      (read logic (map item_of (prefix tree))) ≡ Some (tree_value logic tree)
+  items-value tree =
+      let left : read logic (map item_of (prefix tree)) ≡ Some (entry tree ∷ []) =
+      ap (read logic) (sym (append-nil (map item_of (prefix tree)))) ∙ read-tree tree [] [] refl in
+      rw left (value-entry tree)
 
--- what is read of the first node of a tree
-at-first : {X Y : Type 0} (f : Node X → Y) (otherwise : Y) (tree : Tree X) (place : ℕ)
-    {first : Tree X} {others : List (Tree X)} → Begins tree place first others
-    → get_or (map f (prefix tree)) place otherwise
-    ≡ get_or (map f (prefix first ++ flat_map prefix others)) 0 otherwise
-at-first f otherwise tree place begins =
-    sym (get_or-drop place (map f (prefix tree)) 0 otherwise
-    ∙ ap (λ n. get_or (map f (prefix tree)) n otherwise) {x = place + 0} {y = place} (omega arith))
-    ∙ ap (λ l. get_or l 0 otherwise)
-    (drop-map f place (prefix tree) ∙ ap (map f) begins.nodes)
+  pub nodes_value-holds : (nodes : List ExprNode) (slots : List (Slot T)) (tree : Tree T)
+      → HoldsAnswers nodes slots tree → nodes_value logic nodes slots ≡ Some (tree_value logic tree)
+  nodes_value-holds nodes slots tree holds =
+      let are : items logic nodes slots ≡ map item_of (prefix tree) =
+      zip2_of_maps (item logic) shape_of slot_of (prefix tree) holds.shapes holds.answers in
+      rw are (items-value tree)
 
-module _ {T : Type 0} {nodes : List ExprNode} {old : List (Slot T)} {tree : Tree T}
-    (holds : HoldsAnswers nodes old tree) where
-  as-many : length nodes ≡ length (prefix tree)
-  as-many = sym (length-map nodes shape) ∙ ap length holds.shapes
-      ∙ length-map (prefix tree) shape_of
+  -- where reading stops at an item, it stops in front of it too
+  pub read-stops : (place : ℕ) (all : List (Item T)) → read logic (drop place all) ≡ None
+      → read logic all ≡ None
+  read-stops zero all stops = stops
+  read-stops (suc place) [] stops = stops
+  read-stops (suc place) (first ∷ others) stops = rw (read-stops place others stops) refl
 
-  pub as-many-slots : length old ≡ length nodes
-  as-many-slots = ap length holds.answers ∙ length-map (prefix tree) slot_of ∙ sym as-many
+  length-items : (nodes : List ExprNode) (slots : List (Slot T)) → length slots ≡ length nodes
+      → length (items logic nodes slots) ≡ length nodes
+  length-items nodes slots many = let shapes = length-map nodes shape in
+      length-zip2 (item logic) (map shape nodes) slots (omega (arith, many, shapes)) ∙ shapes
 
   -- before the last node nothing is read
-  pub Reading-begins : (logic : Operations T) (stack : Stack T) → stack.slots.now ≡ old
-      → stack.begin ≡ length old → Reading logic tree old (length nodes) stack
-  Reading-begins logic stack same is = record {
-    below = omega (arith, is, as-many-slots);
+  pub Reading-begins : (nodes : List ExprNode) (old : List (Slot T)) (stack : Stack T)
+      → length old ≡ length nodes → stack.slots.now ≡ old → stack.begin ≡ length old
+      → Reading logic nodes old (length nodes) stack
+  Reading-begins nodes old stack many same is = record {
+    below = omega (arith, is, many);
     within = omega (arith, is, ap length same);
-    are = rw (is, same, drop-length old, as-many, ends tree) refl;
+    are = rw (
+      is,
+      same,
+      drop-length old,
+      drop_all (length nodes) (items logic nodes old) (omega (arith, length-items nodes old many)),
+    ) refl;
     front = rw same refl;
   }
 
-  -- the node at the place is the next one to read
-  pub Reading-is : {logic : Operations T} {place : ℕ} {stack : Stack T} (otherwise : ExprNode)
-      → place < length nodes → Reading logic tree old (place + 1) stack
-      → (first : Tree T) × (others : List (Tree T)) × Begins tree place first others
-      × IsNext logic (get_or nodes place otherwise) place stack first (map (entry logic) others)
-  Reading-is {logic} {place} {stack} otherwise inside reading =
-      let (first, others, begin) = begins tree place (omega (arith, inside, as-many)) in
-      let slots = stack.slots.now in
-      let next : left (place + 1) (tree ∷ []) ≡ members first ++ others =
-      ap (λ n. left n (tree ∷ [])) {x = place + 1} {y = suc place} (omega arith)
-      ∙ ap rest_of begin.trees in
-      let one : get_or slots place slot.Empty ≡ get_or old place slot.Empty =
-      sym (get_or-take (place + 1) slots place slot.Empty (omega arith))
-      ∙ ap (λ l. get_or l place slot.Empty) reading.front
-      ∙ get_or-take (place + 1) old place slot.Empty (omega arith) in (
-        first,
-        others,
-        begin,
-        record {
-          shape_is = sym (get_or-map shape nodes place otherwise Shape.predicate inside)
-              ∙ ap (λ l. get_or l place Shape.predicate) holds.shapes
-              ∙ at-first shape_of Shape.predicate tree place begin
-              ∙ first-shape first _ Shape.predicate;
-          slot_is = one ∙ ap (λ l. get_or l place slot.Empty) holds.answers
-              ∙ at-first slot_of slot.Empty tree place begin ∙ first-slot first _ slot.Empty;
-          stacked = reading.are ∙ ap (map (entry logic)) next
-              ∙ map-append (entry logic) (members first) others;
-        },
-      )
+  module _ {nodes : List ExprNode} {old : List (Slot T)} {place : ℕ} {stack : Stack T}
+      (otherwise : ExprNode) (many : length old ≡ length nodes) (inside : place < length nodes)
+      (reading : Reading logic nodes old (place + 1) stack) where
+    -- what is read at the place
+    abbrev here : Item T
+    here = item logic (shape (get_or nodes place otherwise))
+        (get_or stack.slots.now place slot.Empty)
 
-pub Reading-next : {T : Type 0} {logic : Operations T} {tree first : Tree T}
-    {others : List (Tree T)} {old : List (Slot T)} {place : ℕ} {stack next : Stack T}
-    → Reading logic tree old (place + 1) stack → Begins tree place first others
-    → entries next ≡ entry logic first ∷ map (entry logic) others
-    → take place next.slots.now ≡ take place stack.slots.now
-    → (place ≤ next.begin) × (next.begin ≤ length next.slots.now)
-    → Reading logic tree old place next
-Reading-next {old = old} {place} {stack} reading begin are front within = record {
-  below = within.0;
-  within = within.1;
-  are = are ∙ rw begin.trees refl;
-  front = front ∙ sym (take-take place (place + 1) stack.slots.now (omega arith))
-      ∙ ap (take place) reading.front ∙ take-take place (place + 1) old (omega arith);
-}
+    at : drop place (items logic nodes old) ≡ here ∷ drop (place + 1) (items logic nodes old)
+    at = let shapes = length-map nodes shape in
+        let one : get_or stack.slots.now place slot.Empty ≡ get_or old place slot.Empty =
+        sym (get_or-take (place + 1) stack.slots.now place slot.Empty (omega arith))
+        ∙ ap (λ l. get_or l place slot.Empty) reading.front
+        ∙ get_or-take (place + 1) old place slot.Empty (omega arith) in
+        drop_more (items logic nodes old) place here
+        (omega (arith, inside, length-items nodes old many))
+        ∙ ap (λ first. first ∷ drop (place + 1) (items logic nodes old))
+        (get_or-zip2 (item logic) (map shape nodes) old place
+        (shape (get_or nodes place otherwise)) slot.Empty here
+        (omega (arith, inside, shapes)) (omega (arith, inside, many))
+        ∙ rw (
+          get_or-map shape nodes place otherwise (shape (get_or nodes place otherwise)) inside,
+          one,
+        ) refl)
 
--- at the end the value of the tree is on top
-pub Reading-ends : {T : Type 0} {logic : Operations T} {tree : Tree T} {old : List (Slot T)}
-    {stack : Stack T} → Reading logic tree old 0 stack
-    → top_value (entries stack) ≡ Some (tree_value logic tree)
-Reading-ends {logic = logic} {tree} reading = rw reading.are (value-entry logic tree)
+    pub Reading-next : (next : Stack T) → push_item logic here (entries stack) ≡ Some (entries next)
+        → take place next.slots.now ≡ take place stack.slots.now
+        → (place ≤ next.begin) × (next.begin ≤ length next.slots.now)
+        → Reading logic nodes old place next
+    Reading-next next pushes front within = record {
+      below = within.0;
+      within = within.1;
+      are = rw (at, reading.are) pushes;
+      front = front ∙ sym (take-take place (place + 1) stack.slots.now (omega arith))
+          ∙ ap (take place) reading.front ∙ take-take place (place + 1) old (omega arith);
+    }
+
+    pub Reading-stops : push_item logic here (entries stack) ≡ None
+        → nodes_value logic nodes old ≡ None
+    Reading-stops stops =
+        rw (read-stops place (items logic nodes old) (rw (at, reading.are) stops)) refl
+
+-- a stack with none or several entries has no value alone
+pub not_alone : {T : Type 0} (stack : List (Slot T)) → (length stack ≡ 1 → ⊥)
+    → value_alone stack ≡ None
+not_alone [] other = refl
+not_alone (one ∷ []) other = absurd (other refl)
+not_alone (one ∷ next ∷ stack) other = refl

@@ -1,17 +1,20 @@
 -- Answers at the places of nodes, and how they come there: a closure is asked them.
-use Rattle.std.specs.Prelude.{◌≡◌, ◌<◌, ◌++◌, ℕ, List, [], ◌∷◌, length, replicate, set}
+use Rattle.std.specs.Prelude.{◌≡◌, ◌<◌, ◌++◌, ℕ, List, [], ◌∷◌, length, map, replicate, set}
 use Rattle.std.specs.List.{AllByRecursion}
 use Rattle.cfgx_grammar.specs.Question.{Question}
 use Rattle.cfg_expr.specs.Asking.{Closure, Calls}
 use Rattle.cfg_expr.specs.declared.expr.evaluating.Slot.{Slot}
 use Rattle.cfg_expr.specs.declared.expr.evaluating.Slot.TheVariants as slot
 
+-- with one item after another put at these places
+abbrev pub put_at : {S : Type 0} → List S → List ℕ → List S → List S
+put_at slots places [] = slots
+put_at slots [] (item ∷ items) = slots
+put_at slots (place ∷ places) (item ∷ items) = put_at (set slots place item) places items
+
 -- with one answer after another put at these places
 abbrev pub with_answers : {T : Type 0} → List (Slot T) → List ℕ → List T → List (Slot T)
-with_answers slots places [] = slots
-with_answers slots [] (answer ∷ answers) = slots
-with_answers slots (place ∷ places) (answer ∷ answers) =
-    with_answers (set slots place (slot.Leaf answer)) places answers
+with_answers slots places answers = put_at slots places (map slot.Leaf answers)
 
 -- where the asking stands: some questions were asked, one call each, and what the answers to the
 -- rest make of the slots, all answers make of the first ones

@@ -10,7 +10,7 @@ use Rattle.cfgx_parser.specs.declared.nodes.InnerPredicate.TheVariants as inner
 use Rattle.cfgx_parser.specs.declared.nodes.InnerTarget.TheVariants as target
 use Rattle.cfgx_parser.specs.declared.nodes.Located.{Located}
 use Rattle.cfgx_parser.specs.declared.nodes.Span.{Span}
-use Rattle.cfg_expr.specs.Located.{number_of}
+use Rattle.cfg_expr.specs.Located.{predicate_number}
 use Rattle.cfg_expr.specs.declared.expr.located.LocatedPredicate.{LocatedPredicate}
 
 -- the span of a node's key, if its kind does not say the key
@@ -31,7 +31,7 @@ value_span span _ = None
 abbrev pub of_node : Located → LocatedPredicate
 of_node node = record {
   kind = kind_of (question_with [] [] node.asked);
-  number = number_of (question_with [] [] node.asked);
+  number = predicate_number (question_with [] [] node.asked);
   key = key_span node.key node.asked;
   value = value_span node.value node.asked;
   span = whole_span node;

@@ -9,7 +9,8 @@ ghost use Rattle.cfg_expr.specs.Fold.{tree_fold};
 ghost use Rattle.cfgx_grammar.specs.parsing.State.{initial};
 ghost use Rattle.cfgx_parser.specs.nodes.Prefix.{node_at, prefix, places};
 ghost use Rattle.cfgx_parser.specs.parsing.Parser.{state_of};
-ghost use Rattle.cfg_expr.specs.Deciding.{AreFillings, Decides, IsExactOverAll, held};
+ghost use Rattle.cfg_expr.specs.Deciding.{AreFillingBytes, AreFillings, Decides};
+ghost use Rattle.cfg_expr.specs.Deciding.{IsExactOverAll, held};
 ghost use Rattle.cfg_expr.specs.Evaluation.{AsksInOrder, EvaluatesTo, MayEvaluate};
 ghost use Rattle.cfg_expr.specs.Evaluation.{IsByLaneOverAll, IsValueInLanes};
 ghost use Rattle.cfg_expr.specs.Located.{AreLocated};
@@ -28,8 +29,8 @@ use cfgx_syntax::logic::Kleene64;
 use cfgx_syntax::logic::laws::are_disjoint;
 use smallvec::SmallVec;
 use std::alloc::{AllocError, Global};
-use std::fmt;
 use std::marker::Model;
+use std::{fmt, mem};
 
 /// A condition that borrows its text and nodes from an `Expression` or a `ConditionReader`.
 /// Contracts see it as its stripped text.
@@ -140,11 +141,11 @@ impl<'a> Condition<'a> {
         evaluating::push_empty_slots(&mut slots, nodes.len())?;
         let slots = slots.as_mut_slice();
         evaluating::put_each(self.places(), answers, slots);
-        Ok(evaluating::eval_nodes(nodes, slots))
+        Ok(evaluating::eval_nodes(nodes, slots).unwrap())
     }
 
     /// Decides the condition as `Expression::decide` does, and replaces `decision`. New fillings
-    /// reuse the memory of those that it holds. `Decision::default()` holds none.
+    /// reuse the memory of those that it holds. `Decision::Known(_)` holds none.
     ///
     /// # Errors
     ///
@@ -181,12 +182,40 @@ impl<'a> Condition<'a> {
         ensures exact { IsExactOverAll self.now }
         ensures fillings { IfOk result (AreFillings self.now answers.now) }
     {
-        let mut decision = Decision::default();
+        let mut decision = Decision::Known(false);
         self.decide(alloc, answers, &mut decision)?;
         match decision {
             Decision::Known(_) => Ok(None),
             Decision::Unknown { if_true, if_false } => Ok(Some((if_true, if_false))),
         }
+    }
+
+    /// Writes the two fillings of `decide` as bytes, a byte for each answer: 0 for false, and 1 for
+    /// true. `if_true` and `if_false` have as many bytes as there are answers. The fillings are
+    /// those of `decide` if the value is unknown. With a known value they are written too, and each
+    /// leads to that value.
+    ///
+    /// # Errors
+    ///
+    /// `AllocError`: `alloc` refused memory. Both buffers are as they were.
+    pub fn write_fillings<A: SmallAllocator>(
+        &self,
+        alloc: A,
+        answers: &[Option<bool>],
+        if_true: &mut [u8],
+        if_false: &mut [u8],
+    ) -> Result<(), AllocError>
+        requires answers { AreAnswersTo answers.now self.now }
+        requires true_room { length if_true.old ≡ length answers.now }
+        requires false_room { length if_false.old ≡ length answers.now }
+        // This also holds if the call is out of memory.
+        ensures exact { IsExactOverAll self.now }
+        ensures fillings { OnOk result
+            (AreFillingBytes self.now answers.now if_true.new if_false.new) }
+        ensures refused { OnErr result
+            ((if_true.new ≡ if_true.old) × (if_false.new ≡ if_false.old)) }
+    {
+        filling::write_fillings(alloc, self, answers, if_true, if_false)
     }
 
     /// Evaluates the condition in 64 lanes at once, as `Expression::eval_lanes` does.
@@ -218,21 +247,12 @@ impl<'a> Condition<'a> {
     }
 
     /// Writes the steps of the condition into `buffer`, each in a form of its own. `buffer` has as
-    /// many items as there are steps, and is unchanged if memory is refused.
-    ///
-    /// # Errors
-    ///
-    /// `AllocError`: `alloc` refused memory.
-    pub fn write_steps<T: FromStep, A: SmallAllocator>(
-        &self,
-        alloc: A,
-        buffer: &mut [T],
-    ) -> Result<(), AllocError>
+    /// many items as there are steps. Takes no memory.
+    pub fn write_steps<T: FromStep>(&self, buffer: &mut [T])
         requires { HasSteps self.now (length buffer.old) }
-        ensures steps { OnOk result (AreStepsAs T.form self.now buffer.new) }
-        ensures refused { OnErr result (buffer.new ≡ buffer.old) }
+        ensures { AreStepsAs T.form self.now buffer.new }
     {
-        steps::write_steps(alloc, self, buffer)
+        steps::write_steps(self, buffer)
     }
 
     /// Compiles the condition to steps, as `Expression::steps` does.
@@ -254,20 +274,53 @@ impl fmt::Debug for Condition<'_> {
     }
 }
 
+/// Makes the parser ready for a text of `len` bytes. One that has read nothing is not cleared,
+/// since that would cost a tenth of reading a short text.
+#[inline(always)]
+fn begin<A: SmallAllocator>(
+    parser: &mut Parser<'_, A>,
+    has_read: bool,
+    len: usize,
+) -> Result<(), AllocError>
+    requires { has_read ≡ false → state_of parser.old ≡ initial }
+    ensures ready { state_of parser.new ≡ initial }
+    ensures first { has_read ≡ false → IsOk result }
+{
+    if has_read {
+        return parser.restart(len);
+    }
+    parser.expect(len);
+    Ok(())
+}
+
 /// Reads one condition after another in the same memory. A read allocates only for a faulty text,
 /// for one that needs more room than any before, and once after the first text that has a node.
+/// Contracts see whether it has read a text.
 #[derive(Drop)]
 pub struct ConditionReader<'a, A: SmallAllocator = Global> {
     alloc: A,
     parser: Parser<'a, A>,
     /// Whether the parser has to forget a text before it reads the next
     has_read: bool,
-    ghost fresh: { (has_read ≡ false) → state_of parser ≡ initial },
+}
+
+impl<'a, A: SmallAllocator> Model for ConditionReader<'a, A> {
+    ghost use Rattle.std.specs.Prelude.{◌≡◌, Bool, false};
+    ghost use Rattle.cfgx_grammar.specs.parsing.State.{initial};
+    ghost use Rattle.cfgx_parser.specs.parsing.Parser.{state_of};
+
+    ghost Value = { Bool };
+
+    ghost view = { λ r. r.has_read };
+
+    ghost invariant = { λ r. (r.has_read ≡ false) → state_of r.parser ≡ initial };
 }
 
 impl<'a, A: SmallAllocator> ConditionReader<'a, A> {
-    /// Makes a reader. Takes no memory.
-    pub fn new(alloc: A) -> Self {
+    /// Makes a reader, which has read nothing. Takes no memory.
+    pub fn new(alloc: A) -> Self
+        ensures { result ≡ false }
+    {
         ConditionReader {
             alloc,
             parser: Parser::new(alloc, 0),
@@ -275,35 +328,25 @@ impl<'a, A: SmallAllocator> ConditionReader<'a, A> {
         }
     }
 
-    /// Makes the parser ready for a text of `len` bytes. A new parser is not cleared, since that
-    /// would cost a tenth of reading a short text.
-    #[inline(always)]
-    fn begin(&mut self, len: usize) -> Result<(), AllocError>
-        ensures ready { state_of self.new.parser ≡ initial }
-        ensures has_read { self.new.has_read ≡ true }
-    {
-        if self.has_read {
-            return self.parser.restart(len);
-        }
-        self.has_read = true;
-        self.parser.expect(len);
-        Ok(())
-    }
-
     /// Reads a text, which may stand in `cfg( )`, and returns its condition, which borrows the
     /// text. The condition can be used until the next call of `read`.
     ///
     /// # Errors
     ///
-    /// `Failure::Parse`: the first fault of the text. `Failure::Memory`: the allocator refused
-    /// memory. After either, the next text can be read.
+    /// `Failure::Parse`: the first fault of the text, whose span lies in the text without an outer
+    /// `cfg( )`. `Failure::Memory`: the allocator refused memory, which a reader that has read
+    /// nothing needs for no condition of at most 4 bytes, counted without an outer `cfg( )`. After
+    /// either, the next text can be read.
     #[inline(always)]
     pub fn read(&mut self, text: &'a str) -> Result<Condition<'_>, Failure<A>>
-        ensures { Answers (strip text.now) result }
+        ensures answers { Answers (strip text.now) result }
+        ensures short { self.old ≡ false → HasOneTree (strip text.now)
+            → length (strip text.now) ≤ 4 → IsOk result }
     {
         let lexer = Lexer::new(self.alloc, text);
         let original = lexer.original();
-        self.begin(original.len())?;
+        let has_read = mem::replace(&mut self.has_read, true);
+        begin(&mut self.parser, has_read, original.len())?;
         self.parser.read_all(self.alloc, lexer)?;
         let parser = &self.parser;
         Ok(Condition {

@@ -1,26 +1,28 @@
 //! Evaluation of a condition. Each answer goes into the slot of its node. Then the nodes are read
 //! from the last to the first, with one stack: a leaf is pushed, and a function replaces the values
-//! of its members by its own. The last entry is the value of the condition.
+//! of its members by its own. The only entry left is the value of the condition.
 //!
 //! Unread answers occupy the front of the slots, and the stack occupies the back. They never
 //! overlap, since each node has one slot and pushes one entry. The nodes are in the order of the
 //! text. Predicates are asked in another order: for each function, first those below its member
 //! functions, and then those that are its own members.
-ghost use Rattle.std.specs.Prelude.{◌≡◌, ◌<◌, ◌≤◌, ◌+◌, [], ◌∷◌, ℕ, List, Some, IfOk, IsSome};
-ghost use Rattle.std.specs.Prelude.{IsOk, OnErr, OnOk, length, map, set, get_or, take, drop};
+ghost use Rattle.std.specs.Prelude.{◌≡◌, ◌<◌, ◌≤◌, ◌+◌, [], ◌∷◌, ℕ, List, None, Some, IfOk, IsSome};
+ghost use Rattle.std.specs.Prelude.{IsOk, MatchOption, OnErr, OnOk, drop, get_or, length, set};
+ghost use Rattle.std.specs.Prelude.{take};
 ghost use Rattle.std.specs.Iterator.{AlwaysYields, IsFinite};
-ghost use Rattle.std.specs.List.{AllByRecursion};
+ghost use Rattle.std.specs.List.{AllByRecursion, filter_map};
 ghost use Rattle.cfgx_grammar.specs.Answer.{HasOneTree};
-ghost use Rattle.cfg_expr.specs.Fold.{from_last, literal_value, tree_fold, tree_value};
+ghost use Rattle.cfg_expr.specs.Fold.{from_last, literal_value, tree_fold};
 ghost use Rattle.cfg_expr.specs.Given.{AreAnswersTo};
 ghost use Rattle.cfg_expr.specs.Predicate.{question_of};
-ghost use Rattle.cfgx_grammar.specs.Tree.{Tree};
 ghost use Rattle.cfg_expr.specs.Asking.{Asks, Calls, MayAsk, MayAskEach};
 ghost use Rattle.cfg_expr.specs.Evaluation.{Evaluates, MayEvaluate};
 ghost use Rattle.cfg_expr.specs.nodes.AnswerSlots.{no_answers, with_answers};
-ghost use Rattle.cfg_expr.specs.nodes.Reading.{HoldsAnswers, IsNext, entries, entry};
-ghost use Rattle.cfg_expr.specs.nodes.Reading.{identity_of, join_of, joined, slot_value};
-ghost use Rattle.cfg_expr.specs.nodes.Reading.{top_value, value_in, values_in, without};
+ghost use Rattle.cfg_expr.specs.nodes.Reading.{applied, apply, as_function, as_leaf, entries};
+ghost use Rattle.cfg_expr.specs.nodes.Reading.{identity_of, item, join_of, joined, nodes_value};
+ghost use Rattle.cfg_expr.specs.nodes.Reading.{push_item, slot_value, value_alone};
+ghost use Rattle.cfgx_parser.specs.Order.{func_members};
+ghost use Rattle.cfgx_parser.specs.nodes.Shape.{shape};
 ghost use Rattle.cfg_expr.specs.declared.expr.evaluating.Slot.TheVariants as slot;
 
 use super::{Condition, Func, Predicate, Predicates};
@@ -43,39 +45,14 @@ pub(crate) enum Slot<T> {
     Function(T),
 }
 
-/// Whether a subtree is a leaf or a function.
-#[derive(Clone, Copy)]
-pub(crate) enum Form {
-    /// A predicate or a literal
-    Leaf,
-    /// `all`, `any` or `not`
-    Function,
-}
-
 impl<T: Logic> Slot<T> {
-    /// Takes the value out of the slot and returns it, if it is of the given `form`.
-    fn take_if(&mut self, form: Form) -> Option<T>
-        ensures value { result ≡ value_in form self.old }
-        ensures left { self.new ≡ without form self.old }
+    /// Takes the value out of the slot and returns it, if there is one.
+    fn take(&mut self) -> Option<T>
+        ensures { result ≡ slot_value self.old }
     {
-        match (mem::replace(self, Slot::Empty), form) {
-            (Slot::Leaf(value), Form::Leaf) => Some(value),
-            (Slot::Function(value), Form::Function) => Some(value),
-            (other, _) => {
-                *self = other;
-                None
-            }
-        }
-    }
-
-    /// Returns the value in the slot.
-    fn into_value(self) -> T
-        requires { IsSome (slot_value self) }
-        ensures { slot_value self ≡ Some result }
-    {
-        match self {
-            Slot::Leaf(value) | Slot::Function(value) => value,
-            Slot::Empty => unreachable!(),
+        match mem::replace(self, Slot::Empty) {
+            Slot::Leaf(value) | Slot::Function(value) => Some(value),
+            Slot::Empty => None,
         }
     }
 }
@@ -108,16 +85,38 @@ impl Connective {
         }
     }
 
-    /// Takes the members of the given `form` out, and returns `value` joined with each of them,
-    /// from the last to the first. The members are in the order of the text.
-    fn join_form<T: Logic>(self, form: Form, value: T, members: &mut [Slot<T>]) -> T
-        ensures value { result
-            ≡ from_last (join_of T.Logic self) value (values_in form members.old) }
-        ensures left { members.new ≡ map (without form) members.old }
+    /// Joins the leaves among the members, from the last to the first, and moves the functions to
+    /// the end of the slice. Returns the joined value, and the place where the functions begin.
+    fn join_leaves<T: Logic>(self, members: &mut [Slot<T>]) -> (T, usize)
+        ensures value { result.0 ≡ from_last (join_of T.Logic self) (identity_of T.Logic self)
+            (filter_map as_leaf members.old) }
+        ensures functions { filter_map slot_value (drop result.1 members.new)
+            ≡ filter_map as_function members.old }
+        ensures within { result.1 ≤ length members.new }
+    {
+        let mut value = self.identity();
+        let mut begin = members.len();
+        for place in (0..members.len()).rev() {
+            match mem::replace(&mut members[place], Slot::Empty) {
+                Slot::Leaf(leaf) => value = self.join(value, leaf),
+                Slot::Function(function) => {
+                    begin -= 1;
+                    members[begin] = Slot::Function(function);
+                }
+                Slot::Empty => {}
+            }
+        }
+        (value, begin)
+    }
+
+    /// Returns `value` joined with each value in the slots, from the last to the first.
+    fn join_values<T: Logic>(self, value: T, slots: &mut [Slot<T>]) -> T
+        ensures { result
+            ≡ from_last (join_of T.Logic self) value (filter_map slot_value slots.old) }
     {
         let mut value = value;
-        for place in (0..members.len()).rev() {
-            if let Some(member) = members[place].take_if(form) {
+        for place in (0..slots.len()).rev() {
+            if let Some(member) = slots[place].take() {
                 value = self.join(value, member);
             }
         }
@@ -126,12 +125,24 @@ impl Connective {
 
     /// Returns the joined value of the members: first the leaves are joined and then the functions,
     /// each from the last to the first. This is the order of `cfg-expr`, which matters to a `Logic`
-    /// whose operations do not commute.
+    /// whose operations do not commute. The members are in the order of the text.
     fn join_all<T: Logic>(self, members: &mut [Slot<T>]) -> T
         ensures { result ≡ joined T.Logic self members.old }
     {
-        let leaves = self.join_form(Form::Leaf, self.identity(), members);
-        self.join_form(Form::Function, leaves, members)
+        let (leaves, begin) = self.join_leaves(members);
+        self.join_values(leaves, &mut members[begin..])
+    }
+}
+
+/// Returns the value of a function over its members, or `None` if the member of `not` has none.
+fn apply_to<T: Logic>(func: Func, members: &mut [Slot<T>]) -> Option<T>
+    requires { length members.old ≡ func_members func }
+    ensures { result ≡ applied T.Logic func members.old }
+{
+    match func {
+        Func::Not => Some(members[0].take()?.not()),
+        Func::All(_) => Some(Connective::And.join_all(members)),
+        Func::Any(_) => Some(Connective::Or.join_all(members)),
     }
 }
 
@@ -147,13 +158,13 @@ pub(super) fn literal_value<T: Logic>(truth: bool) -> T
 /// greater than `place`.
 #[derive(Drop)]
 pub(crate) struct Stack<'a, T> {
-    slots: &'a mut [Slot<T>],
-    begin: usize,
+    pub(super) slots: &'a mut [Slot<T>],
+    pub(super) begin: usize,
 }
 
 impl<T: Logic> Stack<'_, T> {
     /// Pushes `entry`.
-    fn push(&mut self, entry: Slot<T>)
+    pub(super) fn push(&mut self, entry: Slot<T>)
         requires { (0 < self.old.begin) × (self.old.begin ≤ length self.old.slots.now) }
         ensures entries { entries self.new ≡ entry ∷ entries self.old }
         ensures front { (place : ℕ) → place < self.old.begin
@@ -165,49 +176,37 @@ impl<T: Logic> Stack<'_, T> {
         self.slots[self.begin] = entry;
     }
 
-    /// Pops the top entry, and returns its value.
-    fn pop(&mut self) -> T
-        requires within { self.old.begin ≤ length self.old.slots.now }
-        requires value { IsSome (top_value (entries self.old)) }
-        ensures value { top_value (entries self.old) ≡ Some result }
-        ensures entries { entries self.new ≡ drop 1 (entries self.old) }
-        ensures front { (place : ℕ) → place ≤ self.old.begin
-            → take place self.new.slots.now ≡ take place self.old.slots.now }
-        ensures begin { self.new.begin ≡ self.old.begin + 1 }
-        ensures len { length self.new.slots.now ≡ length self.old.slots.now }
-    {
-        let entry = mem::replace(&mut self.slots[self.begin], Slot::Empty);
-        self.begin += 1;
-        entry.into_value()
-    }
-
-    /// Replaces the top `count` entries by their joined value.
-    fn join(&mut self, connective: Connective, count: usize)
+    /// Replaces the members of a function, which are the top entries, by its value. Returns `None`
+    /// if there are fewer entries, or if the member of `not` has no value.
+    pub(super) fn apply(&mut self, func: Func) -> Option<()>
         requires within { (0 < self.old.begin) × (self.old.begin ≤ length self.old.slots.now) }
-        requires many { count ≤ length (entries self.old) }
-        ensures entries { entries self.new
-            ≡ slot.Function (joined T.Logic connective (take count (entries self.old)))
-            ∷ drop count (entries self.old) }
+        ensures entries { MatchOption result (apply T.Logic func (entries self.old) ≡ None)
+            (λ _. apply T.Logic func (entries self.old) ≡ Some (entries self.new)) }
         ensures front { (place : ℕ) → place < self.old.begin
             → take place self.new.slots.now ≡ take place self.old.slots.now }
-        ensures begin { self.new.begin + 1 ≡ self.old.begin + count }
+        ensures begin { self.old.begin ≤ self.new.begin + 1 }
+        ensures within { self.new.begin ≤ length self.new.slots.now }
         ensures len { length self.new.slots.now ≡ length self.old.slots.now }
     {
+        let count = func.members();
+        if count > self.slots.len() - self.begin {
+            return None;
+        }
         let end = self.begin + count;
-        let value = connective.join_all(&mut self.slots[self.begin..end]);
+        let value = apply_to(func, &mut self.slots[self.begin..end])?;
         self.begin = end;
         self.push(Slot::Function(value));
+        Some(())
     }
 
-    /// Reads `node`, whose slot is at `place`: pops its members, and pushes its value.
-    fn read(&mut self, node: &ExprNode, place: usize)
-        requires within { (place < self.old.begin)
-            × (self.old.begin ≤ length self.old.slots.now) }
-        requires next { (tree : Tree T) × (rest : List (Slot T))
-            × IsNext T.Logic node.now place self.old tree rest }
-        ensures entries { (tree : Tree T) (rest : List (Slot T))
-            → IsNext T.Logic node.now place self.old tree rest
-            → entries self.new ≡ entry T.Logic tree ∷ rest }
+    /// Reads `node`, whose slot is at `place`: pushes its answer or its value, or applies it. Returns
+    /// `None` if a function finds too few members.
+    fn read(&mut self, node: &ExprNode, place: usize) -> Option<()>
+        requires { (place < self.old.begin) × (self.old.begin ≤ length self.old.slots.now) }
+        ensures entries { let read = item T.Logic (shape node.now)
+            (get_or self.old.slots.now place slot.Empty) in
+            MatchOption result (push_item T.Logic read (entries self.old) ≡ None)
+            (λ _. push_item T.Logic read (entries self.old) ≡ Some (entries self.new)) }
         ensures front { take place self.new.slots.now ≡ take place self.old.slots.now }
         ensures within { (place ≤ self.new.begin)
             × (self.new.begin ≤ length self.new.slots.now) }
@@ -218,30 +217,36 @@ impl<T: Logic> Stack<'_, T> {
                 self.push(answer);
             }
             ExprNode::Literal(truth) => self.push(Slot::Leaf(literal_value(*truth))),
-            ExprNode::Fn { func, .. } => match func {
-                Func::Not => {
-                    let member = self.pop();
-                    self.push(Slot::Function(member.not()));
-                }
-                Func::All(count) => self.join(Connective::And, *count),
-                Func::Any(count) => self.join(Connective::Or, *count),
-            },
+            ExprNode::Fn { func, .. } => self.apply(*func)?,
         }
+        Some(())
+    }
+
+    /// Returns the value of the only entry, or `None` unless there is exactly one.
+    pub(super) fn into_value(self) -> Option<T>
+        requires { self.begin ≤ length self.slots.now }
+        ensures { result ≡ value_alone (entries self.entry) }
+    {
+        if self.slots.len() - self.begin != 1 {
+            return None;
+        }
+        self.slots[self.begin].take()
     }
 }
 
-/// Returns the value of the condition whose answers are in the slots.
-pub(super) fn eval_nodes<T: Logic>(nodes: &[ExprNode], slots: &mut [Slot<T>]) -> T
-    requires { (tree : Tree T) × HoldsAnswers nodes.now slots.old tree }
-    ensures { (tree : Tree T) → HoldsAnswers nodes.now slots.old tree
-        → result ≡ tree_value T.Logic tree }
+/// Reads the nodes from the last to the first over the answers in the slots, and returns the value
+/// that is left alone, or `None` if there is none. There is one if the nodes are those of a tree,
+/// and each of its predicates has an answer.
+pub(super) fn eval_nodes<T: Logic>(nodes: &[ExprNode], slots: &mut [Slot<T>]) -> Option<T>
+    requires { length slots.old ≡ length nodes.now }
+    ensures { result ≡ nodes_value T.Logic nodes.now slots.old }
 {
     let begin = slots.len();
     let mut stack = Stack { slots, begin };
     for place in (0..nodes.len()).rev() {
-        stack.read(&nodes[place], place);
+        stack.read(&nodes[place], place)?;
     }
-    stack.pop()
+    stack.into_value()
 }
 
 /// Pushes `count` empty slots to `slots`, which is new. Up to 33 are inline and take no memory. A
@@ -340,7 +345,7 @@ where
     push_empty_slots(&mut slots, nodes.len())?;
     let slots = slots.as_mut_slice();
     ask_each(condition.places(), condition.predicates(), slots, ep);
-    Ok(eval_nodes(nodes, slots))
+    Ok(eval_nodes(nodes, slots).unwrap())
 }
 
 /// Returns the value of the condition over `answers`, as `Condition::eval_over` does.

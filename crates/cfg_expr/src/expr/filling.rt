@@ -20,8 +20,9 @@ ghost use Rattle.std.specs.List.{AllByRecursion};
 ghost use Rattle.cfg_expr.specs.Given.{AreAnswersTo};
 ghost use Rattle.cfgx_grammar.specs.Answer.{HasOneTree};
 ghost use Rattle.cfgx_parser.specs.nodes.Shape.{Shape, shape};
-ghost use Rattle.cfg_expr.specs.Deciding.{HoldsFillings, IsDecision, held};
-ghost use Rattle.cfg_expr.specs.nodes.Parity.{IsPassed, filled_at, pass};
+ghost use Rattle.cfg_expr.specs.Deciding.{AreFillingBytes, HoldsFillings, IsDecision, held};
+ghost use Rattle.cfg_expr.specs.Filling.{filling_bytes, truth_byte};
+ghost use Rattle.cfg_expr.specs.nodes.Parity.{IsPassed, filled_at, pass, turned};
 
 use super::{Condition, Decision, Func, evaluating};
 use crate::memory::SmallAllocator;
@@ -191,4 +192,72 @@ pub(crate) fn decide<A: SmallAllocator>(
     pass_nodes(condition.nodes(), &mut pending, &mut negated)?;
     let places = condition.places();
     set_unknown(alloc, decision, negated.as_slice(), places, answers)
+}
+
+/// Returns `value`, or its opposite if `is_negated` is true.
+fn turned(value: bool, is_negated: bool) -> bool
+    ensures { result ≡ turned value is_negated }
+{
+    value != is_negated
+}
+
+/// Returns a truth value as a byte.
+fn truth_byte(truth: bool) -> u8
+    ensures { result ≡ truth_byte truth }
+{
+    if truth { 1 } else { 0 }
+}
+
+/// Writes the filling of `answers` with `fill` to `buffer`, a byte for each answer. `places` and
+/// `negated` are as in `fill`.
+fn write_filling(
+    negated: &[bool],
+    places: &[usize],
+    answers: &[Option<bool>],
+    fill: bool,
+    buffer: &mut [u8],
+)
+    requires count { length places.now ≡ length answers.now }
+    requires inside { AllByRecursion (λ place. place < length negated.now) places.now }
+    requires room { length buffer.old ≡ length answers.now }
+    ensures { buffer.new ≡ filling_bytes (filled_at negated.now places.now answers.now fill) }
+{
+    let mut written = 0;
+    for (place, answer) in places.iter().zip(answers) {
+        buffer[written] = truth_byte(answer.unwrap_or(turned(fill, negated[*place])));
+        written += 1;
+    }
+}
+
+/// Writes the two fillings of `answers` as bytes: the first to `if_true`, and the second to
+/// `if_false`. Each has room for a byte for each answer.
+///
+/// # Errors
+///
+/// `AllocError`: `alloc` refused memory. Both buffers are as they were, since all memory is taken
+/// before anything is written.
+pub(crate) fn write_fillings<A: SmallAllocator>(
+    alloc: A,
+    condition: &Condition<'_>,
+    answers: &[Option<bool>],
+    if_true: &mut [u8],
+    if_false: &mut [u8],
+) -> Result<(), AllocError>
+    requires answers { AreAnswersTo answers.now condition.now }
+    requires true_room { length if_true.old ≡ length answers.now }
+    requires false_room { length if_false.old ≡ length answers.now }
+    ensures one { HasOneTree condition.now }
+    ensures fillings { OnOk result
+        (AreFillingBytes condition.now answers.now if_true.new if_false.new) }
+    ensures refused { OnErr result
+        ((if_true.new ≡ if_true.old) × (if_false.new ≡ if_false.old)) }
+{
+    let mut pending = SmallVec::new(&alloc);
+    let mut negated = SmallVec::new(&alloc);
+    pass_nodes(condition.nodes(), &mut pending, &mut negated)?;
+    let negated = negated.as_slice();
+    let places = condition.places();
+    write_filling(negated, places, answers, true, if_true);
+    write_filling(negated, places, answers, false, if_false);
+    Ok(())
 }

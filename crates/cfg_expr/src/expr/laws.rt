@@ -1,14 +1,18 @@
 //! Laws on the values of all conditions, for proofs of callers. Each function does nothing, and its
 //! caller knows what it ensures.
-ghost use Rattle.std.specs.Prelude.{◌≡◌, ℕ, ◌<◌, ◌++◌, ◌∷◌, [], Bool, List, Some, length, map};
+ghost use Rattle.std.specs.Prelude.{◌≡◌, ℕ, ◌<◌, ◌≤◌, ◌+◌, ◌*◌, Bool, List, Option, Some, length, map};
 ghost use Rattle.std.specs.List.{AllByRecursion};
 ghost use Rattle.cfgx_syntax.specs.Kleene.{lane};
-ghost use Rattle.cfg_expr.specs.Filling.{three_valued};
+ghost use Rattle.cfgx_syntax.specs.Token.{Token};
+ghost use Rattle.cfg_expr.specs.Filling.{KeepsKnown, three_valued};
 ghost use Rattle.cfg_expr.specs.Fold.{answered, tree_fold, list_value, tree_value, values_of};
 ghost use Rattle.cfg_expr.specs.Homomorphism.{IsHomomorphism, Passes, is_disjoint, lane_valued};
+ghost use Rattle.cfg_expr.specs.Located.{AreLocated};
+ghost use Rattle.cfgx_grammar.specs.Grammar.{HasTree, IsTree, commas_and_opens};
 ghost use Rattle.cfgx_grammar.specs.Question.{Question};
 ghost use Rattle.cfgx_grammar.specs.Tree.{ListFunction, Tree, Trees, arranged, asked, asked_each};
-ghost use Rattle.cfg_expr.specs.Steps.{run_steps, steps_of};
+ghost use Rattle.cfg_expr.specs.Steps.{AreCounted, HasValue, steps_of};
+ghost use Rattle.cfg_expr.specs.declared.expr.located.LocatedPredicate.{LocatedPredicate};
 ghost use Rattle.cfg_expr.specs.declared.expr.steps.Step.{Step};
 
 use super::Logic;
@@ -49,15 +53,44 @@ pub fn lanes_are_homomorphisms()
         → IsHomomorphism lane_valued three_valued (Passes is_disjoint) (lane i) }
 {}
 
-/// The steps of a condition, run over answers to its predicates, push its value, and alone they
-/// have it as theirs. So a loop over the steps with a stack of values evaluates the condition, in
-/// any logic.
-pub fn steps_push_the_value<T: Logic>()
-    ensures pushed { (tree : Tree Question) (answers more stack : List T) (rest : List Step)
+/// The steps of a condition have its value over answers to its predicates. So a loop that reads the
+/// steps from the last to the first with a stack evaluates the condition, in any logic.
+pub fn steps_have_the_value<T: Logic>()
+    ensures value { (tree : Tree Question) (answers : List T)
         → length answers ≡ length (asked tree)
-        → run_steps T.Logic (steps_of tree ++ rest) (answers ++ more) stack
-        ≡ run_steps T.Logic rest more (tree_fold T.Logic tree answers ∷ stack) }
-    ensures alone { (tree : Tree Question) (answers : List T)
-        → length answers ≡ length (asked tree)
-        → run_steps T.Logic (steps_of tree) answers [] ≡ Some (tree_fold T.Logic tree answers) }
+        → HasValue T.Logic (steps_of tree) answers (tree_fold T.Logic tree answers) }
+    ensures counted { (tree : Tree Question) (answers : List T)
+        → length answers ≡ length (asked tree) → AreCounted (steps_of tree) answers }
+{}
+
+/// Steps have one value over the same answers.
+pub fn steps_have_one_value<T: Logic>()
+    ensures { (steps : List Step) (answers : List T) (value other : T)
+        → HasValue T.Logic steps answers value → HasValue T.Logic steps answers other
+        → value ≡ other }
+{}
+
+/// A condition has one step, and at most one more for each comma and each opening parenthesis among
+/// its tokens. So a text with `n` steps has at least `2 * n - 1` bytes.
+pub fn steps_are_few()
+    ensures by_tokens { (tokens : List Token) (tree : Tree Question) → IsTree tokens tree
+        → length (steps_of tree) ≤ 1 + commas_and_opens tokens }
+    ensures twice { (text : List ℕ) (tree : Tree Question) → HasTree text tree
+        → 2 * length (steps_of tree) ≤ 1 + length text }
+    ensures by_bytes { (text : List ℕ) (tree : Tree Question) → HasTree text tree
+        → length (steps_of tree) ≤ length text }
+{}
+
+/// A value that is known stays as it is when more answers become known: `later` has each answer
+/// that `answers` knows.
+pub fn known_values_stay()
+    ensures { (tree : Tree Question) (answers later : List (Option Bool)) (value : Bool)
+        → KeepsKnown answers later → tree_fold three_valued tree answers ≡ Some value
+        → tree_fold three_valued tree later ≡ Some value }
+{}
+
+/// A text has one list of located predicates.
+pub fn predicates_are_located_once()
+    ensures { (text : List ℕ) (list others : List LocatedPredicate)
+        → AreLocated text list → AreLocated text others → list ≡ others }
 {}

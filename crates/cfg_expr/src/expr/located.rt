@@ -1,6 +1,6 @@
 //! Where the predicates of a condition stand in its text.
-ghost use Rattle.std.specs.Prelude.{◌≡◌, ◌<◌, ◌+◌, ◌^◌, ℕ, List, length};
-ghost use Rattle.cfg_expr.specs.Located.{atomic_number, endian_number, number_of};
+ghost use Rattle.std.specs.Prelude.{◌≡◌, ◌<◌, ◌^◌, ℕ, List, length};
+ghost use Rattle.cfg_expr.specs.Located.{atomic_number, endian_number, predicate_number};
 ghost use Rattle.cfg_expr.specs.nodes.LocatedNode.{key_span, value_span};
 ghost use Rattle.cfgx_parser.specs.nodes.Located.{HasCut, question_with};
 
@@ -8,6 +8,7 @@ use cfgx_fields::atomic::HasAtomic;
 use cfgx_fields::endian::Endian;
 use cfgx_parser::kinds::Kind;
 use cfgx_parser::nodes::{ExprNode, InnerPredicate, InnerTarget, Located, Span};
+use std::fmt;
 use std::marker::Model;
 
 /// A predicate where it stands: its kind, its number and its spans. Spans are ranges of the bytes
@@ -50,9 +51,9 @@ fn atomic_number(width: HasAtomic) -> u32
 
 /// Returns the number of a pointer width, an atomic or a byte order, and 0 for every other
 /// predicate.
-fn number_of(predicate: InnerPredicate) -> u32
+fn predicate_number(predicate: InnerPredicate) -> u32
     ensures { (key : List ℕ) → (value : List ℕ)
-        → result ≡ number_of (question_with key value predicate) }
+        → result ≡ predicate_number (question_with key value predicate) }
 {
     match predicate {
         InnerPredicate::Target(InnerTarget::Endian(endian)) => endian_number(endian),
@@ -91,12 +92,12 @@ impl LocatedPredicate {
 
     /// Returns the predicate of a node.
     fn of(node: Located) -> Self
-        requires { (text : List ℕ) × HasCut text node × (length text + 1 < 2 ^ 64) }
+        requires { (text : List ℕ) × HasCut text node × (length text < 2 ^ 64) }
         ensures { result ≡ of_node node }
     {
         LocatedPredicate {
             kind: node.asked.kind(),
-            number: number_of(node.asked),
+            number: predicate_number(node.asked),
             key: key_span(node),
             value: value_span(node),
             span: node.span(),
@@ -113,7 +114,7 @@ pub struct LocatedPredicates<'a> {
 }
 
 impl<'a> Model for LocatedPredicates<'a> {
-    ghost use Rattle.std.specs.Prelude.{List, ℕ, ◌<◌, ◌+◌, ◌^◌, length};
+    ghost use Rattle.std.specs.Prelude.{List, ℕ, ◌<◌, ◌^◌, length};
     ghost use Rattle.cfg_expr.specs.declared.expr.located.LocatedPredicate.{LocatedPredicate};
     ghost use Rattle.cfg_expr.specs.nodes.LocatedNode.{located_at};
     ghost use Rattle.cfgx_parser.specs.nodes.KeepsTree.{NamePredicates};
@@ -123,7 +124,7 @@ impl<'a> Model for LocatedPredicates<'a> {
     ghost view = { λ p. located_at p.nodes.now p.places.now };
 
     ghost invariant = { λ p. (text : List ℕ) × NamePredicates text p.nodes.now p.places.now
-        × (length text + 1 < 2 ^ 64) };
+        × (length text < 2 ^ 64) };
 }
 
 impl LocatedPredicates<'_> {
@@ -132,6 +133,13 @@ impl LocatedPredicates<'_> {
         ensures { result ≡ length self.now }
     {
         self.places.len()
+    }
+}
+
+/// Writes the name alone.
+impl fmt::Debug for LocatedPredicates<'_> {
+    fn fmt<W: fmt::Write>(&self, f: &mut fmt::Formatter<W>) -> fmt::Result {
+        f.debug_struct("LocatedPredicates").finish_non_exhaustive()
     }
 }
 

@@ -156,7 +156,7 @@ impl<'a> TargetPredicate<'a> {
 impl<A: Allocator> TargetPredicate<'_, A> {
     /// Returns what is asked, and the text that is asked for, which is empty for a number or a
     /// byte order.
-    pub fn parts(&self) -> (InnerTarget, &str)
+    pub(super) fn parts(&self) -> (InnerTarget, &str)
         ensures asked { result.0 ≡ inner_target (target_of self.now) }
         ensures text { result.1.now ≡ target_text (target_of self.now) }
     {

@@ -1,25 +1,22 @@
 //! The steps of conditions, and the value of any steps.
 //!
-//! A loop with a stack of values runs the steps. The step of a function comes after those of its
-//! members, and members come in the order in which they are asked. So each step that asks takes the
-//! next answer, and a function pops the values of its members and pushes its own.
-ghost use Rattle.std.specs.Prelude.{◌≡◌, ◌<◌, ◌≤◌, [], ◌∷◌, ◌++◌, ℕ, List, None, Some};
-ghost use Rattle.std.specs.Prelude.{◌+◌, IfErr, IfNone, IfOk, IfSome, IsTrue, MatchOption, OnErr, OnOk, count_by};
-ghost use Rattle.std.specs.Prelude.{◌↔◌, drop, length, map, reverse, slice_get, take};
+//! The steps of a condition are its nodes as they stand in the text: a function stands in front of
+//! its members. They are read from the last to the first, with the stack that evaluates a
+//! condition.
+ghost use Rattle.std.specs.Prelude.{◌≡◌, ◌≤◌, [], ℕ, List, None, Some, IfErr, IfOk, IsTrue, map};
+ghost use Rattle.std.specs.Prelude.{MatchOption, ◌<◌, ◌+◌, ◌↔◌, count_by, length};
+ghost use Rattle.std.specs.List.{AllByRecursion, range_with_len};
 ghost use Rattle.std.specs.Cmp.Rules.{comparing};
 ghost use Rattle.std.proofs.Common.{rules};
-ghost use Rattle.smallvec.specs.SmallVec.{HasRoomFor};
-ghost use Rattle.cfg_expr.specs.Fold.{from_last};
-ghost use Rattle.cfgx_grammar.specs.Question.{Question};
-ghost use Rattle.cfgx_grammar.specs.Tree.{Trees};
-ghost use Rattle.cfg_expr.specs.Steps.{AreSteps, AreStepsAs, Fail, HasSteps, run_steps, step_eq};
-ghost use Rattle.cfg_expr.specs.nodes.Reading.{identity_of, join_of};
-ghost use Rattle.cfg_expr.specs.nodes.StepStack.{Holds, leave_one, popped};
-ghost use Rattle.cfg_expr.specs.nodes.StepWriting.{Ends, IsInside, IsLeft, IsWriting};
-ghost use Rattle.cfg_expr.specs.nodes.StepWriting.{begins_function, function_step, own_leaves, part};
-ghost use Rattle.cfg_expr.specs.nodes.StepWriting.{parts_of};
+ghost use Rattle.cfgx_parser.specs.nodes.Shape.{shape};
+ghost use Rattle.cfg_expr.specs.Steps.{AreCounted, AreSteps, AreStepsAs, Fail, HasSteps, HasValue};
+ghost use Rattle.cfg_expr.specs.Steps.{is_ask, step_eq};
+ghost use Rattle.cfg_expr.specs.nodes.AnswerSlots.{put_at};
+ghost use Rattle.cfg_expr.specs.nodes.Reading.{entries, push_item, shape_step, step_item};
+ghost use Rattle.cfg_expr.specs.nodes.Reading.{steps_value};
+ghost use Rattle.cfg_expr.specs.declared.expr.steps.Step.TheVariants as step;
 
-use super::evaluating::{Connective, literal_value};
+use super::evaluating::{Slot, Stack, literal_value, push_empty_slots};
 use super::{Condition, Func};
 use crate::memory::SmallAllocator;
 use cfgx_parser::nodes::ExprNode;
@@ -27,21 +24,18 @@ use cfgx_syntax::logic::Logic;
 use smallvec::SmallVec;
 use std::alloc::AllocError;
 
-/// A step of the evaluation of a condition. Equal steps have the same variant, and the same truth
-/// value or number.
-#[derive(Clone, Copy, Default, Debug)]
+/// A step of the evaluation of a condition, which is a node of its tree. Steps are read from the
+/// last to the first. Equal steps have the same variant, and the same truth value, number or
+/// function.
+#[derive(Clone, Copy, Debug)]
 pub enum Step {
-    /// Pushes the next answer
-    #[default]
-    Ask,
+    /// Pushes the answer to the predicate with this number. Predicates are numbered from 0, in the
+    /// order in which they are asked
+    Ask(usize),
     /// Pushes `top` for true, and `bottom` for false
     Literal(bool),
-    /// Pops a value, and pushes its negation
-    Not,
-    /// Pops this number of values, joins `top` by `and` with each in turn, and pushes the result
-    All(usize),
-    /// Pops this number of values, joins `bottom` by `or` with each in turn, and pushes the result
-    Any(usize),
+    /// Pops the values of the members, the first member first, and pushes the value of the function
+    Function(Func),
 }
 
 impl PartialEq for Step {
@@ -53,9 +47,9 @@ impl PartialEq for Step {
         ensures { IsTrue result ↔ (self.now ≡ other.now) }
     {
         match (self, other) {
-            (Step::Ask, Step::Ask) | (Step::Not, Step::Not) => true,
+            (Step::Ask(one), Step::Ask(other)) => one == other,
             (Step::Literal(one), Step::Literal(other)) => one == other,
-            (Step::All(one), Step::All(other)) | (Step::Any(one), Step::Any(other)) => one == other,
+            (Step::Function(one), Step::Function(other)) => one == other,
             _ => false,
         }
     }
@@ -68,10 +62,10 @@ impl Eq for Step {
 /// Why steps have no value over answers.
 #[derive(Debug, Drop)]
 pub enum StepsError {
-    /// There are no answers over which the steps have a value
-    NoValue,
-    /// The steps have a value over another number of answers
+    /// There are more or fewer answers than steps that ask
     Miscounted,
+    /// The steps are not those of one tree, or a step asks for an answer that is not there
+    NoValue,
     /// The allocator refused memory
     Memory(AllocError),
 }
@@ -86,143 +80,74 @@ impl From<AllocError> for StepsError {
     }
 }
 
-impl Step {
-    /// Returns the number of values that the step pops.
-    fn popped(self) -> usize
-        ensures { result ≡ popped self }
-    {
-        match self {
-            Step::Ask | Step::Literal(_) => 0,
-            Step::Not => 1,
-            Step::All(count) | Step::Any(count) => count,
-        }
-    }
-}
-
-/// Whether the steps leave exactly one value, if there are enough answers.
-fn leave_one(steps: &[Step]) -> bool
-    ensures { result ≡ leave_one steps.now 0 }
-{
-    let mut depth = 0;
-    for step in steps {
-        let popped = step.popped();
-        if popped > depth {
-            return false;
-        }
-        depth = depth - popped + 1;
-    }
-    depth == 1
-}
-
-/// Takes the first answer that is left and returns it, or `None` if none is left.
-fn take_answer<T: Copy>(answers: &mut &[T]) -> Option<T>
-    ensures { MatchOption result (answers.old.now ≡ [])
-        (λ answer. answers.old.now ≡ answer ∷ answers.new.now) }
-{
-    let (first, others) = answers.split_first()?;
-    *answers = others;
-    Some(*first)
-}
-
-/// Pops the last value and returns it, or `None` if there is none. The entries are `Option`s since
-/// a `SmallVec` needs a default, and each of them has a value.
-fn pop<T: Logic + Copy, A: SmallAllocator>(stack: &mut SmallVec<Option<T>, 33, &A>) -> Option<T>
-    ensures value { (values : List T) → Holds stack.old.items values
-        → (result ≡ slice_get values 0) × Holds stack.new.items (drop 1 values) }
-    ensures fewer { length stack.new.items ≤ length stack.old.items }
-    ensures capacity { stack.new.capacity ≡ stack.old.capacity }
-{
-    stack.pop()?
-}
-
-/// Pops `count` values, joins them in the order of popping and returns what they give. Returns
-/// `None` if there are fewer.
-fn pop_joined<T: Logic + Copy, A: SmallAllocator>(
-    connective: Connective,
-    count: usize,
-    stack: &mut SmallVec<Option<T>, 33, &A>,
-) -> Option<T>
-    ensures value { (values : List T) → Holds stack.old.items values
-        → MatchOption result (length values < count) (λ value. (count ≤ length values)
-        × (value ≡ from_last (join_of T.Logic connective) (identity_of T.Logic connective)
-        (reverse (take count values))) × Holds stack.new.items (drop count values)) }
-    ensures fewer { length stack.new.items ≤ length stack.old.items }
-    ensures capacity { stack.new.capacity ≡ stack.old.capacity }
-{
-    let mut value = connective.identity();
-    for _popped in 0..count {
-        let member = pop(stack)?;
-        value = connective.join(value, member);
-    }
-    Some(value)
-}
-
-/// Takes what `step` takes of the answers and of the stack. Returns the value that it pushes, or
-/// `None` if an answer or a value is missing.
-fn take_value<T: Logic + Copy, A: SmallAllocator>(
-    step: Step,
-    answers: &mut &[T],
-    stack: &mut SmallVec<Option<T>, 33, &A>,
-) -> Option<T>
-    ensures value { (values : List T) (steps : List Step) → Holds stack.old.items values
-        → MatchOption result (run_steps T.Logic (step ∷ steps) answers.old.now values ≡ None)
-        (λ value. (below : List T) × Holds stack.new.items below
-        × (run_steps T.Logic (step ∷ steps) answers.old.now values
-        ≡ run_steps T.Logic steps answers.new.now (value ∷ below))) }
-    ensures fewer { length stack.new.items ≤ length stack.old.items }
-    ensures capacity { stack.new.capacity ≡ stack.old.capacity }
+/// Reads `step` over `answers`: pushes its answer or its value, or applies it. Returns `None` if
+/// the answer is missing, or if a function finds too few members.
+fn read_step<T: Logic + Copy>(step: Step, answers: &[T], stack: &mut Stack<'_, T>) -> Option<()>
+    requires { (0 < stack.old.begin) × (stack.old.begin ≤ length stack.old.slots.now) }
+    ensures entries { let read = step_item T.Logic answers.now step in
+        MatchOption result (push_item T.Logic read (entries stack.old) ≡ None)
+        (λ _. push_item T.Logic read (entries stack.old) ≡ Some (entries stack.new)) }
+    ensures begin { stack.old.begin ≤ stack.new.begin + 1 }
+    ensures within { stack.new.begin ≤ length stack.new.slots.now }
 {
     match step {
-        Step::Ask => take_answer(answers),
-        Step::Literal(truth) => Some(literal_value(truth)),
-        Step::Not => Some(pop(stack)?.not()),
-        Step::All(count) => pop_joined(Connective::And, count, stack),
-        Step::Any(count) => pop_joined(Connective::Or, count, stack),
+        Step::Ask(number) => stack.push(Slot::Leaf(*answers.get(number)?)),
+        Step::Literal(truth) => stack.push(Slot::Leaf(literal_value(truth))),
+        Step::Function(func) => stack.apply(func)?,
     }
+    Some(())
 }
 
-/// Runs the steps over `answers` with an empty stack, and returns their value if they have one.
-fn run_steps<T: Logic + Copy, A: SmallAllocator>(
-    steps: &[Step],
-    answers: &[T],
-    stack: &mut SmallVec<Option<T>, 33, &A>,
-) -> Option<T>
-    requires empty { stack.old.items ≡ [] }
-    requires room { HasRoomFor stack.old (length steps.now) }
-    ensures { result ≡ run_steps T.Logic steps.now answers.now [] }
+/// Reads the steps from the last to the first over `answers`, and returns the value that is left
+/// alone, or `None` if there is none. There is a slot for each step.
+fn read_steps<T: Logic + Copy>(steps: &[Step], answers: &[T], slots: &mut [Slot<T>]) -> Option<T>
+    requires { length slots.old ≡ length steps.now }
+    ensures { result ≡ steps_value T.Logic steps.now answers.now }
 {
-    let mut left = answers;
-    for step in steps {
-        let value = take_value(*step, &mut left, stack)?;
-        stack.push_reserved(Some(value));
+    let begin = slots.len();
+    let mut stack = Stack { slots, begin };
+    for place in (0..steps.len()).rev() {
+        read_step(steps[place], answers, &mut stack)?;
     }
-    let value = pop(stack)?;
-    (left.is_empty() & stack.is_empty()).then_some(value)
+    stack.into_value()
 }
 
-/// Returns the value that the steps leave on a stack. Any list of steps may be passed. Each step
-/// that asks takes the next of the `answers`. If the steps are those of a condition, and the
+/// Returns the number of steps that ask.
+fn count_asks(steps: &[Step]) -> usize
+    ensures { result ≡ count_by is_ask steps.now }
+{
+    steps
+        .iter()
+        .filter(|step| matches!(step, Step::Ask(_)))
+        .count()
+}
+
+/// Returns the value that the steps have over `answers`. Any list of steps may be passed. A step
+/// that asks takes the answer that has its number. If the steps are those of a condition, and the
 /// answers are those to its predicates in the order in which they are asked, this is its value.
 ///
 /// Takes no memory for up to 33 steps.
 ///
 /// # Errors
 ///
-/// `StepsError::NoValue`: the steps have no value over any answers, since a step pops more values
-/// than there are, or not exactly one value is left. `StepsError::Miscounted`: they have a value
-/// over more or fewer answers. `StepsError::Memory`: `alloc` refused memory.
+/// `StepsError::Miscounted`: there are more or fewer answers than steps that ask.
+/// `StepsError::NoValue`: otherwise, the steps are not those of one tree, or a step asks for an
+/// answer that is not there. `StepsError::Memory`: `alloc` refused memory.
 pub fn eval_steps<T, A>(alloc: A, steps: &[Step], answers: &[T]) -> Result<T, StepsError>
 where
     T: Logic + Copy,
     A: SmallAllocator,
-    ensures value { IfOk result (λ value.
-        run_steps T.Logic steps.now answers.now [] ≡ Some value) }
+    ensures counted { IfOk result (λ _. AreCounted steps.now answers.now) }
+    ensures value { IfOk result (HasValue T.Logic steps.now answers.now) }
     ensures error { IfErr result (Fail T.Logic steps.now answers.now) }
 {
-    let mut stack = SmallVec::with_capacity(&alloc, steps.len())?;
-    match run_steps(steps, answers, &mut stack) {
+    if count_asks(steps) != answers.len() {
+        return Err(StepsError::Miscounted);
+    }
+    let mut slots = SmallVec::new(&alloc);
+    push_empty_slots(&mut slots, steps.len())?;
+    match read_steps(steps, answers, slots.as_mut_slice()) {
         Some(value) => Ok(value),
-        None if leave_one(steps) => Err(StepsError::Miscounted),
         None => Err(StepsError::NoValue),
     }
 }
@@ -249,211 +174,45 @@ impl FromStep for Step {
     }
 }
 
-/// Writes the steps of a condition into a buffer. It reads the nodes in order. It reads the members
-/// of a function again when the function ends, since the steps of its leaves follow those of its
-/// member functions. It takes its memory first, so the buffer is written whole or not at all.
-#[derive(Drop)]
-pub(crate) struct StepWriter<'n, A: SmallAllocator> {
-    /// All nodes of the condition
-    nodes: &'n [ExprNode],
-    /// The places of the functions that have begun and not ended, the innermost one last
-    begun: SmallVec<usize, 8, A>,
-    /// The number of steps written so far
-    written: usize,
-}
-
-/// Returns the step of a function.
-fn function_step(func: Func) -> Step
-    ensures { result ≡ function_step func }
+/// Returns the step of a node. A predicate has the number 0.
+fn step_of(node: &ExprNode) -> Step
+    ensures { result ≡ shape_step (shape node.now) }
 {
-    match func {
-        Func::Not => Step::Not,
-        Func::All(count) => Step::All(count),
-        Func::Any(count) => Step::Any(count),
+    match node {
+        ExprNode::Fn { func, .. } => Step::Function(*func),
+        ExprNode::Literal(truth) => Step::Literal(*truth),
+        ExprNode::Predicate(_) => Step::Ask(0),
     }
 }
 
-impl<'n, A: SmallAllocator> StepWriter<'n, A> {
-    /// Returns a writer that has written nothing of these nodes.
-    fn new(alloc: A, nodes: &'n [ExprNode]) -> Self
-        ensures nodes { result.nodes.now ≡ nodes.now }
-        ensures begun { result.begun.items ≡ [] }
-        ensures written { result.written ≡ 0 }
-    {
-        StepWriter {
-            nodes,
-            begun: SmallVec::new(alloc),
-            written: 0,
-        }
+/// Writes a step for each node, in order. Each predicate has the number 0.
+fn write_nodes<T: FromStep>(nodes: &[ExprNode], buffer: &mut [T])
+    requires { length buffer.old ≡ length nodes.now }
+    ensures { buffer.new ≡ map (λ node. T.form (shape_step (shape node))) nodes.now }
+{
+    for place in 0..nodes.len() {
+        buffer[place] = T::from_step(step_of(&nodes[place]));
     }
+}
 
-    /// Reserves room for the places of the functions. If `new` did this, it would return a
-    /// `Result`, and the writer would be copied out of it.
-    fn reserve(&mut self) -> Result<(), AllocError>
-        requires { self.old.begun.items ≡ [] }
-        ensures kept { (self.new.nodes ≡ self.old.nodes)
-            × (self.new.begun.items ≡ self.old.begun.items)
-            × (self.new.written ≡ self.old.written) }
-        ensures begun { OnOk result (HasRoomFor self.new.begun
-            (count_by begins_function (map part self.old.nodes.now))) }
-    {
-        // Most conditions have few nodes, so their functions need not be counted.
-        if self.nodes.len() <= self.begun.capacity() {
-            return Ok(());
-        }
-        let functions = self
-            .nodes
-            .iter()
-            .filter(|node| matches!(node, ExprNode::Fn { .. }))
-            .count();
-        self.begun.reserve(functions)
-    }
-
-    /// Writes a step.
-    fn write_step<T: FromStep>(&mut self, step: Step, buffer: &mut [T])
-        requires { self.old.written < length buffer.old }
-        ensures kept { (self.new.nodes ≡ self.old.nodes) × (self.new.begun ≡ self.old.begun) }
-        ensures written { self.new.written ≡ self.old.written + 1 }
-        ensures step { take self.new.written buffer.new
-            ≡ take self.old.written buffer.old ++ T.form step ∷ [] }
-    {
-        buffer[self.written] = T::from_step(step);
-        self.written += 1;
-    }
-
-    /// Writes the steps of the leaves among these members that stand in no inner function.
-    fn write_leaves<T: FromStep>(&mut self, members: &[ExprNode], buffer: &mut [T])
-        requires members { (trees : Trees Question) × (map part members.now ≡ parts_of trees) }
-        requires room { self.old.written + length (own_leaves 0 (map part members.now))
-            ≤ length buffer.old }
-        ensures kept { (self.new.nodes ≡ self.old.nodes) × (self.new.begun ≡ self.old.begun) }
-        ensures written { self.new.written
-            ≡ self.old.written + length (own_leaves 0 (map part members.now)) }
-        ensures steps { take self.new.written buffer.new
-            ≡ take self.old.written buffer.old
-            ++ map T.form (own_leaves 0 (map part members.now)) }
-    {
-        let mut left = members;
-        while let Some((node, others)) = left.split_first() {
-            left = match node {
-                ExprNode::Fn { len, .. } => others.split_at(len - 1).1,
-                ExprNode::Predicate(_) => {
-                    self.write_step(Step::Ask, buffer);
-                    others
-                }
-                ExprNode::Literal(truth) => {
-                    self.write_step(Step::Literal(*truth), buffer);
-                    others
-                }
-            };
-        }
-    }
-
-    /// Pops the innermost function if its last node stands before `next`. Returns it with its
-    /// members, and `None` if it has a node at `next` or there is no function.
-    fn pop_ended(&mut self, next: usize) -> Option<(Func, &'n [ExprNode])>
-        requires left { (roots : Trees Question) × (steps : List Step)
-            × IsLeft (map part self.old.nodes.now) roots next (reverse self.old.begun.items) steps }
-        requires next { next ≤ length self.old.nodes.now }
-        ensures kept { (self.new.nodes ≡ self.old.nodes)
-            × (self.new.written ≡ self.old.written)
-            × (self.new.begun.capacity ≡ self.old.begun.capacity) }
-        ensures some { IfSome result (λ ended. Ends (map part self.old.nodes.now) next
-            (reverse self.old.begun.items) (reverse self.new.begun.items) ended.0
-            (map part ended.1.now)) }
-        ensures none { IfNone result ((self.new.begun.items ≡ self.old.begun.items)
-            × IsInside (map part self.old.nodes.now) next (reverse self.old.begun.items)) }
-    {
-        let place = *self.begun.last()?;
-        let (node, members) = self.nodes.get(place..next)?.split_first()?;
-        // Always a function: `begun` has no other places.
-        let ExprNode::Fn { func, len } = node else {
-            return None;
-        };
-        if *len > next - place {
-            return None;
-        }
-        self.begun.pop();
-        Some((*func, members))
-    }
-
-    /// Ends each function whose last node stands before `next`.
-    fn end_functions<T: FromStep>(&mut self, next: usize, buffer: &mut [T])
-        requires writing { (roots : Trees Question)
-            × IsWriting T.form roots next self.old buffer.old }
-        requires next { next ≤ length self.old.nodes.now }
-        ensures writing { (roots : Trees Question) → IsWriting T.form roots next self.old buffer.old
-            → IsWriting T.form roots next self.new buffer.new }
-        ensures inside { IsInside (map part self.new.nodes.now) next
-            (reverse self.new.begun.items) }
-        ensures nodes { self.new.nodes ≡ self.old.nodes }
-    {
-        while let Some((func, members)) = self.pop_ended(next) {
-            self.write_leaves(members, buffer);
-            self.write_step(function_step(func), buffer);
-        }
-    }
-
-    /// Notes where a function begins, if the node at `place` is one.
-    fn read_node(&mut self, place: usize)
-        requires place { place < length self.old.nodes.now }
-        requires inside { IsInside (map part self.old.nodes.now) place
-            (reverse self.old.begun.items) }
-        requires room { HasRoomFor self.old.begun
-            (count_by begins_function (drop place (map part self.old.nodes.now))) }
-        ensures kept { (self.new.nodes ≡ self.old.nodes) × (self.new.written ≡ self.old.written) }
-        ensures room { HasRoomFor self.new.begun
-            (count_by begins_function (drop (place + 1) (map part self.old.nodes.now))) }
-        ensures left { (roots : Trees Question) (steps : List Step)
-            → IsLeft (map part self.old.nodes.now) roots place (reverse self.old.begun.items) steps
-            → IsLeft (map part self.old.nodes.now) roots (place + 1)
-            (reverse self.new.begun.items) steps }
-    {
-        let ExprNode::Fn { .. } = self.nodes[place] else {
-            return;
-        };
-        self.begun.push_reserved(place);
-    }
-
-    /// Writes all nodes, one after another.
-    fn write_nodes<T: FromStep>(&mut self, buffer: &mut [T])
-        requires begun { self.old.begun.items ≡ [] }
-        requires writing { (roots : Trees Question)
-            × IsWriting T.form roots 0 self.old buffer.old }
-        ensures writing { (roots : Trees Question) → IsWriting T.form roots 0 self.old buffer.old
-            → IsWriting T.form roots (length self.new.nodes.now) self.new buffer.new }
-        ensures inside { IsInside (map part self.new.nodes.now) (length self.new.nodes.now)
-            (reverse self.new.begun.items) }
-        ensures nodes { self.new.nodes ≡ self.old.nodes }
-    {
-        for place in 0..self.nodes.len() {
-            self.read_node(place);
-            self.end_functions(place + 1, buffer);
-        }
+/// Writes steps that ask for the answers 0, 1, 2 and so on, one at each of `places`.
+fn write_numbers<T: FromStep>(places: &[usize], buffer: &mut [T])
+    requires { AllByRecursion (λ place. place < length buffer.old) places.now }
+    ensures { buffer.new ≡ put_at buffer.old places.now
+        (map (λ number. T.form (step.Ask number)) (range_with_len 0 (length places.now))) }
+{
+    for number in 0..places.len() {
+        buffer[places[number]] = T::from_step(Step::Ask(number));
     }
 }
 
 /// Writes the steps of a condition into `buffer`, in time proportional to their number.
-///
-/// # Errors
-///
-/// `AllocError`: `alloc` refused memory.
-pub(crate) fn write_steps<T: FromStep, A: SmallAllocator>(
-    alloc: A,
-    condition: &Condition<'_>,
-    buffer: &mut [T],
-) -> Result<(), AllocError>
+pub(crate) fn write_steps<T: FromStep>(condition: &Condition<'_>, buffer: &mut [T])
     requires { HasSteps condition.now (length buffer.old) }
-    ensures steps { OnOk result (AreStepsAs T.form condition.now buffer.new) }
-    ensures refused { OnErr result (buffer.new ≡ buffer.old) }
+    ensures { AreStepsAs T.form condition.now buffer.new }
 {
-    let nodes = condition.nodes();
-    let mut writer = StepWriter::new(alloc, nodes);
-    writer.reserve()?;
-    writer.write_nodes(buffer);
-    // A condition without a function is one leaf, which is not written yet.
-    writer.write_leaves(nodes, buffer);
-    Ok(())
+    write_nodes(condition.nodes(), buffer);
+    write_numbers(condition.places(), buffer);
 }
 
 /// Returns the steps of a condition, in time proportional to the number of its nodes.
@@ -461,13 +220,13 @@ pub(crate) fn write_steps<T: FromStep, A: SmallAllocator>(
 /// # Errors
 ///
 /// `AllocError`: `alloc` refused memory.
-pub fn steps_of<A: SmallAllocator>(
+pub(crate) fn steps_of<A: SmallAllocator>(
     alloc: A,
     condition: &Condition<'_>,
 ) -> Result<Vec<Step, A>, AllocError>
     ensures { IfOk result (λ steps. AreSteps condition.now steps.items) }
 {
-    let mut steps = vec![in alloc; Step::default(); condition.step_count()]?;
-    write_steps(alloc, condition, steps.as_mut_slice())?;
+    let mut steps = vec![in alloc; Step::Literal(false); condition.step_count()]?;
+    write_steps(condition, steps.as_mut_slice());
     Ok(steps)
 }

@@ -18,7 +18,7 @@ write_steps-requires g c =
 
 pub returns : goal.returns
 returns g c =
-    let wrote = c.in_ok-write_steps.ensures.steps in (
+    let wrote = c.write_steps.ensures in (
       wrote.0,
       take_at c.write_steps.new.buffer _ c.in_ok-steps.steps.len (omega (
         arith,
