@@ -1,126 +1,266 @@
--- The index of the facts of targets: what is joined to it, and what it answers.
-use Rattle.std.proofs.Common.{◌≡◌, ◌↔◌, ◌∙◌, ◌<◌, ◌+◌, ◌≤◌, ◌++◌, ℕ, zero, suc, Bool, true, false}
-use Rattle.std.proofs.Common.{List, [], ◌∷◌, Option, Some, None, ◌||◌, ap, arith, cond, inl, inr}
+-- Sorted lists of what facts say: of one list of names, of one target and of several targets.
+use Rattle.std.proofs.Common.{◌≡◌, ◌↔◌, ◌∙◌, ◌<◌, ◌+◌, ◌≤◌, ◌++◌, ◌⊎◌, ℕ, zero, suc, Bool}
+use Rattle.std.proofs.Common.{true, false, List, [], ◌∷◌, Option, Some, None, ap, arith, inl, inr}
 use Rattle.std.proofs.Common.{◌≢◌, get_or, if◌then◌else◌, length, map, refl, sym, take, ⊎_elim}
+use Rattle.std.proofs.Common.{◌-◌, ◌||◌, option_map}
 use Rattle.std.proofs.lemmas.Bool.{cases_lt}
-use Rattle.std.proofs.lemmas.List.{get_or_default, length-append, map-append, take_more}
-use Rattle.std.proofs.lemmas.List.Folds.{Any-from_list_any, list_any-append, list_any_at}
-use Rattle.std.proofs.lemmas.Option.{same_Some, slice_get_within}
-use Rattle.std.specs.Cmp.Lexicographic.{bytes_decides, pointwise_decides}
-use Rattle.std.specs.HashMap.{Updates, get, get_by}
-use Rattle.std.specs.{List.Contains, List.slice_get}
-use Rattle.std.specs.Option.{option_map_or}
+use Rattle.std.proofs.lemmas.List.{get_or_default}
+use Rattle.std.proofs.lemmas.List.{get_or-take, get_or_push, length-append, length-take-le}
+use Rattle.std.proofs.lemmas.List.{take_all}
+use Rattle.std.proofs.lemmas.List.{map-append, take_more}
+use Rattle.std.proofs.lemmas.List.Folds.{list_any-append}
+use Rattle.std.proofs.lemmas.Option.{get_or_from_slice_get, same_Some, slice_get_within}
+use Rattle.std.specs.Cmp.{tied_itself}
+use Rattle.std.specs.{List.slice_get}
+use Rattle.std.specs.List.Sorted.{IsSorted, IsStrictlySortedBy}
+use Rattle.std.specs.Ordering.{is_eq, is_lt, ordering_reverse}
+use Rattle.std.specs.declared.cmp.Ordering.{Ordering}
+use Rattle.std.specs.declared.cmp.Ordering.TheVariants.{Less, Equal, Greater}
 use Rattle.cfgx_syntax.specs.Kleene.{EachLane, Planes, behind, lane}
 use Rattle.cfgx_syntax.specs.Logic.{kleene_or}
-use Rattle.cfgx_grammar.proofs.ListLemmas.{slice_get-append, slice_get-append_seam}
+use Rattle.cfgx_grammar.proofs.ListLemmas.{all_of_both, all_of_second, slice_get-append}
+use Rattle.cfgx_grammar.proofs.ListLemmas.{slice_get-append-add, slice_get-append_seam}
 use Rattle.cfgx_grammar.specs.Question.{Question}
-use Rattle.cfgx_parser.specs.Kinds.{kind_number, kind_of}
 use Rattle.cfgx_engine.specs.Facts.{FactTexts, IsAnswer, IsNamed, unnamed_answer}
 use Rattle.cfgx_engine.specs.declared.resolve.facts.Otherwise.{Otherwise}
 use Rattle.cfgx_engine.specs.declared.resolve.facts.Otherwise.TheVariants as otherwise
 use Rattle.cfgx_engine.specs.declared.resolve.parts.Parts.{Parts}
 use Rattle.cfgx_engine.specs.internal.InLanes.{InLanes}
-use Rattle.cfgx_engine.specs.internal.Index.{Index, IsIndexOf, Joins, JoinsTarget, is_among}
-use Rattle.cfgx_engine.specs.internal.Index.{one_lane, told}
-use Rattle.cfgx_engine.specs.internal.Names.{AreNames, Code, code, code_eq, code_of, facts_in}
-use Rattle.cfgx_engine.specs.internal.Names.{key_of, number_of, parts_eq, spelled, text_of}
+use Rattle.cfgx_engine.specs.internal.Index.{AreSorted, EndsWith, Entry, Joins}
+use Rattle.cfgx_engine.specs.internal.Index.{TellsEach, TellsTarget, TellsTargets}
+use Rattle.cfgx_engine.specs.internal.Index.{is_among, one_lane, paired, told}
+use Rattle.cfgx_engine.specs.internal.Names.{AreNames, Code, code, code_cmp, code_eq, code_of}
+use Rattle.cfgx_engine.specs.internal.Names.{facts_in}
 use Rattle.cfgx_engine.proofs.FactLemmas.{true_and_false}
-use Rattle.cfgx_engine.proofs.NameLemmas.{IsNamed-spelled}
+use Rattle.cfgx_engine.proofs.NameLemmas.{code_total, equal_codes, found}
+use Rattle.cfgx_engine.proofs.EntryLemmas.{false_or, is_among-Contains, is_among-IsNamed}
+use Rattle.cfgx_engine.proofs.EntryLemmas.{or_false, or_self, or_true, paired-append, paired-codes}
+use Rattle.cfgx_engine.proofs.EntryLemmas.{same_code, told-append}
 
--- Codes among others.
+-- The entries of one list of names.
 
-same_code : (one other : Code) → code_eq one other ≡ true → one ≡ other
-same_code one other = (pointwise_decides bytes_decides one other).0
+-- an entry behind the last one, which is below it
+sorted_push : (before : List Code) (last name : Code) → code_cmp last name ≡ Less
+    → IsStrictlySortedBy code_cmp (before ++ last ∷ [])
+    → IsStrictlySortedBy code_cmp ((before ++ last ∷ []) ++ name ∷ [])
+unfolding IsStrictlySortedBy
+sorted_push [] last name less sorted = ((less, tt), (tt, tt))
+sorted_push (one ∷ before) last name less sorted =
+    let below = all_of_second (λ other. code_cmp one other ≡ Less) before (last ∷ []) sorted.0 in (
+      all_of_both (λ other. code_cmp one other ≡ Less) (before ++ last ∷ []) (name ∷ []) sorted.0
+          (code_total.trans one last name below.0 less, tt),
+      sorted_push before last name less sorted.1,
+    )
 
-is_among-Contains : (names : List Code) (name : Code)
-    → (is_among names name ≡ true) ↔ Contains names name
-is_among-Contains names name = (
-  λ yes.
-      let (k, other, below, is, same) =
-      Any-from_list_any (λ other. code_eq other name) names yes in
-      (k, below, get_or_default names k name other below ∙ is ∙ same_code other name same),
-  λ (k, below, is).
-      list_any_at (λ other. code_eq other name) names k name below
-      (ap (λ other. code_eq other name) is ∙ (pointwise_decides bytes_decides name name).1 refl),
-)
+-- the predicates and answers of names, which are sorted
+pub record Lists (names : List Code) (answers : ℕ → Option Bool) (parts : List Parts)
+    (planes : List Planes) : Type 0 where
+  pub as_many : length parts ≡ length planes
+  pub sorted : AreSorted (paired parts planes)
+  pub tells : TellsEach names answers (paired parts planes)
+  pub last : (parts ≡ [])
+      ⊎ ((0 < length names) × EndsWith parts (get_or names (length names - 1) []))
 
--- a name is among codes exactly if a text that spells one of them names its question
-is_among-IsNamed : (names : List Code) (question : Question) → AreNames names
-    → (is_among names (code_of question) ≡ true) ↔ IsNamed (spelled names) question
-is_among-IsNamed names question named =
-    let among = is_among-Contains names (code_of question) in
-    let spells = IsNamed-spelled names question named in
-    (λ yes. spells.1 (among.0 yes), λ is. among.1 (spells.0 is))
-
--- What is joined.
-
--- parts with the code of a question
-abbrev parts_of : Question → Parts
-parts_of question = record {
-  kind = kind_number (kind_of question);
-  number = number_of question;
-  key = record { ref_ptr = (0, 0); now = key_of question };
-  value = record { ref_ptr = (0, 0); now = text_of question };
+pub Lists-none : (answers : ℕ → Option Bool) → Lists [] answers [] []
+unfolding IsStrictlySortedBy
+Lists-none answers = record {
+  as_many = refl;
+  sorted = tt;
+  tells = λ name i below. refl;
+  last = inl refl;
 }
 
-or_again : (x y : Option Bool) → kleene_or (kleene_or x y) y ≡ kleene_or x y
-or_again x y = grind arith
+-- of sorted codes, one that differs from the one before is above it
+rising : (one other : Code) → is_lt (code_cmp other one) ≡ false → (one ≡ other → ⊥)
+    → code_cmp one other ≡ Less
+rising one other not_less apart =
+    turned (code_cmp other one) (code_cmp one other) (code_total.antisymm one other)
+    (λ equal. apart (sym (equal_codes other one equal))) not_less
+  where
+    turned : (order other : Ordering) → other ≡ ordering_reverse order → (order ≡ Equal → ⊥)
+        → is_lt order ≡ false → other ≡ Less
+    turned Less other is apart not_less = absurd cc
+    turned Equal other is apart not_less = absurd (apart refl)
+    turned Greater other is apart not_less = is
 
--- an answer that is told, or false
-abbrev told_or_false : ℕ → Option Planes → Option Bool
-told_or_false i found = option_map_or (lane i) found (Some false)
+-- predicates that end with a code end with one of this code
+ends_split : (names : List Parts) (name : Code) → EndsWith names name
+    → (before : List Parts) × (last : Parts) × (names ≡ before ++ last ∷ [])
+    × (code last ≡ name)
+ends_split names name ends =
+    of_item (slice_get names (length names - 1)) refl ends
+  where
+    of_item : (item : Option Parts) → slice_get names (length names - 1) ≡ item
+        → option_map code item ≡ Some name
+        → (before : List Parts) × (last : Parts) × (names ≡ before ++ last ∷ [])
+        × (code last ≡ name)
+    of_item None is ends = absurd cc
+    of_item (Some last) is ends =
+        let k = length names - 1 in
+        let below = slice_get_within names k last is in (
+          take k names,
+          last,
+          sym (take_all (k + 1) names (omega (arith, below))) ∙ take_more names k last below
+              ∙ ap (λ item. take k names ++ item ∷ [])
+              (get_or_from_slice_get names k last last is),
+          same_Some (code last) name ends,
+        )
 
-joined_one : (same : Bool) (before at after : Option Planes) (joined answers : Planes) (i : ℕ)
-    → (same ≡ true → at ≡ before) → after ≡ cond same (Some joined) before
-    → lane i joined ≡ kleene_or (told_or_false i at) (lane i answers)
-    → told_or_false i after ≡ (if same || false
-    then kleene_or (told_or_false i before) (lane i answers) else told_or_false i before)
-joined_one true before at after joined answers i is updates lanes =
-    rw (updates, ← is refl) lanes
-joined_one false before at after joined answers i is updates lanes = rw updates refl
+-- a list that is pushed to ends with what was pushed
+ends_pushed : (names : List Parts) (asked : Parts) → EndsWith (names ++ asked ∷ []) (code asked)
+ends_pushed names asked =
+    let long = length-append names (asked ∷ []) in
+    let here : length (names ++ asked ∷ []) - 1 ≡ length names = omega (arith, long) in
+    rw (here, slice_get-append_seam names asked []) refl
 
--- the answers to one predicate
-pub Joins-one : (asked : Parts) (answers joined : Planes) (old new : Index)
-    → Updates parts_eq old new asked (Some joined)
-    → ((i : ℕ) → i < 64 → lane i joined ≡ kleene_or (told old (code asked) i) (lane i answers))
-    → Joins (code asked ∷ []) answers old new
-Joins-one asked answers joined old new updates lanes question i below =
-    let name = code_of question in
-    joined_one (code_eq (code asked) name) (get parts_eq old (parts_of question))
-    (get parts_eq old asked) (get parts_eq new (parts_of question)) joined answers i
-    (λ same. ap (λ name. get_by (λ parts. code_eq name (code parts)) old)
-    (same_code (code asked) name same))
-    (updates.0 (parts_of question)) (lanes i below)
+equal_order : (order : Ordering) → is_eq order ≡ true → order ≡ Equal
+equal_order Less is = absurd cc
+equal_order Equal is = refl
+equal_order Greater is = absurd cc
 
-joined_twice : (one other : Bool) (old mid new answer : Option Bool)
-    → mid ≡ (if one then kleene_or old answer else old)
-    → new ≡ (if other then kleene_or mid answer else mid)
-    → new ≡ (if one || other then kleene_or old answer else old)
-joined_twice true true old mid new answer first second =
-    second ∙ ap (λ x. kleene_or x answer) first ∙ or_again old answer
-joined_twice true false old mid new answer first second = second ∙ first
-joined_twice false true old mid new answer first second =
-    second ∙ ap (λ x. kleene_or x answer) first
-joined_twice false false old mid new answer first second = second ∙ first
+-- the last predicate has a code exactly if it compares as equal
+pub ends_when : (names : List Parts) (last : Parts) (name : Code) (answer : Bool)
+    → Some last ≡ slice_get names (length names - 1)
+    → answer ≡ is_eq (code_cmp (code last) name) → (answer ≡ true) ↔ EndsWith names name
+ends_when names last name answer is equal = (
+  λ yes.
+      let same = equal_codes (code last) name (equal_order _ (sym equal ∙ yes)) in
+      rw (← is) (ap Some same),
+  λ ends.
+      let ends' : Some (code last) ≡ Some name = rw (← is) at ends in
+      let same = same_Some (code last) name ends' in
+      equal ∙ ap (λ one. is_eq (code_cmp one name)) same ∙ ap is_eq (tied_itself code_total name),
+)
 
--- the answers to one predicate more
-Joins-more : (names : List Code) (name : Code) (answers : Planes) (old mid new : Index)
-    → Joins names answers old mid → Joins (name ∷ []) answers mid new
-    → Joins (names ++ name ∷ []) answers old new
-Joins-more names name answers old mid new first second question i below =
-    let asked = code_of question in
-    rw (list_any-append (λ other. code_eq other asked) names (name ∷ []))
-    (joined_twice (is_among names asked) (is_among (name ∷ []) asked) (told old asked i)
-    (told mid asked i) (told new asked i) (lane i answers) (first question i below)
-    (second question i below))
+among-push : (names : List Code) (asked name : Code)
+    → is_among (names ++ asked ∷ []) name ≡ (is_among names name || (code_eq asked name || false))
+among-push names asked name = list_any-append (λ other. code_eq other name) names (asked ∷ [])
 
-pub Joins-taken : {X : Type 0} (name : X → Code) (xs : List X) (i : ℕ) (d : X) (asked : Code)
-    (answers : Planes) (old mid new : Index) → i < length xs → asked ≡ name (get_or xs i d)
-    → Joins (map name (take i xs)) answers old mid → Joins (asked ∷ []) answers mid new
-    → Joins (map name (take (i + 1) xs)) answers old new
-Joins-taken name xs i d asked answers old mid new below same first second =
-    rw (take_more xs i d below, map-append, ← same)
-    (Joins-more (map name (take i xs)) asked answers old mid new first second)
+told_pushed : (among same : Bool) (answer : Option Bool)
+    → kleene_or (if among then answer else Some false)
+    (kleene_or (if same then answer else Some false) (Some false))
+    ≡ (if among || (same || false) then answer else Some false)
+told_pushed true true answer = rw (or_false answer, or_self answer) refl
+told_pushed true false answer = or_false answer
+told_pushed false true answer = rw (or_false answer, false_or answer) refl
+told_pushed false false answer = refl
+
+told_again : (among same : Bool) (told answer : Option Bool) → (same ≡ true → among ≡ true)
+    → told ≡ (if among then answer else Some false)
+    → told ≡ (if among || (same || false) then answer else Some false)
+told_again true same told answer known is = is
+told_again false true told answer known is = absurd (cc (known refl))
+told_again false false told answer known is = is
+
+-- one name more of sorted ones: it is pushed, or it was the last one too
+module _ (names : List Code) (asked : Code) (answers : ℕ → Option Bool) (parts : List Parts)
+    (planes : List Planes) (lists : Lists names answers parts planes) where
+  now_last : get_or (names ++ asked ∷ []) (length (names ++ asked ∷ []) - 1) [] ≡ asked
+  now_last =
+      let long = length-append names (asked ∷ []) in
+      get_or_push names asked [] (length (names ++ asked ∷ []) - 1) (omega (arith, long))
+
+  now_some : 0 < length (names ++ asked ∷ [])
+  now_some = let long = length-append names (asked ∷ []) in omega (arith, long)
+
+  codes_sorted : IsStrictlySortedBy code_cmp (map code parts)
+  codes_sorted = rw (paired-codes parts planes lists.as_many) at lists.sorted
+
+  longer : (part : Parts) (plane : Planes)
+      → length (parts ++ part ∷ []) ≡ length (planes ++ plane ∷ [])
+  longer part plane =
+      let long = length-append parts (part ∷ []) in
+      let long' = length-append planes (plane ∷ []) in omega (arith, long, long', lists.as_many)
+
+  pushed_sorted : (part : Parts) → code part ≡ asked → (EndsWith parts asked → ⊥)
+      → (0 < length names → is_lt (code_cmp asked (get_or names (length names - 1) [])) ≡ false)
+      → IsStrictlySortedBy code_cmp (map code (parts ++ part ∷ []))
+  unfolding IsStrictlySortedBy
+  pushed_sorted part same apart order =
+      ⊎_elim (λ none. rw none (tt, tt)) (λ (some, ends).
+      let (before, last, is, name) = ends_split parts (get_or names (length names - 1) []) ends in
+      let less = rising (get_or names (length names - 1) []) asked (order some)
+      (λ same'. apart (rw same' at ends)) in
+      rw (is, map-append, map-append, same)
+      (sorted_push (map code before) (code last) asked (rw (← name) at less)
+      (rw (is, map-append) at codes_sorted))) lists.last
+
+  told_one : (part : Parts) (plane : Planes) → code part ≡ asked
+      → ((i : ℕ) → lane i plane ≡ answers i) → (name : Code) (i : ℕ)
+      → told (paired (part ∷ []) (plane ∷ [])) name i
+      ≡ kleene_or (if code_eq asked name then answers i else Some false) (Some false)
+  told_one part plane same lanes name i =
+      ap (λ one. kleene_or (if code_eq one name then lane i plane else Some false) (Some false))
+      same
+      ∙ ap (λ x. kleene_or (if code_eq asked name then x else Some false) (Some false)) (lanes i)
+
+  Lists-push : (part : Parts) (plane : Planes) → code part ≡ asked
+      → ((i : ℕ) → lane i plane ≡ answers i) → (EndsWith parts asked → ⊥)
+      → (0 < length names → is_lt (code_cmp asked (get_or names (length names - 1) [])) ≡ false)
+      → Lists (names ++ asked ∷ []) answers (parts ++ part ∷ []) (planes ++ plane ∷ [])
+  Lists-push part plane same lanes apart order = record {
+    as_many = longer part plane;
+    sorted = rw (paired-codes (parts ++ part ∷ []) (planes ++ plane ∷ []) (longer part plane))
+        (pushed_sorted part same apart order);
+    tells = λ name i below.
+        rw (
+          paired-append parts (part ∷ []) planes (plane ∷ []) lists.as_many,
+          told-append (paired parts planes) (paired (part ∷ []) (plane ∷ [])) name i,
+          among-push names asked name,
+          lists.tells name i below,
+        ) (ap (λ x. kleene_or (if is_among names name then answers i else Some false) x)
+        (told_one part plane same lanes name i)
+        ∙ told_pushed (is_among names name) (code_eq asked name) (answers i));
+    last = inr (now_some, rw (now_last, ← same) (ends_pushed parts part));
+  }
+
+  known : EndsWith parts asked → is_among names asked ≡ true
+  known ends =
+      ⊎_elim (λ none. absurd (cc (rw none at ends))) (λ (some, ends').
+      let last = get_or names (length names - 1) [] in
+      let is : last ≡ asked = same_Some last asked (sym ends' ∙ ends) in
+      (is_among-Contains names asked).1 (
+        length names - 1,
+        omega (arith, some),
+        get_or_default names (length names - 1) asked [] (omega (arith, some)) ∙ is,
+      )) lists.last
+
+  Lists-again : EndsWith parts asked → Lists (names ++ asked ∷ []) answers parts planes
+  Lists-again ends = record {
+    as_many = lists.as_many;
+    sorted = lists.sorted;
+    tells = λ name i below.
+        rw (among-push names asked name)
+        (told_again (is_among names name) (code_eq asked name) (told (paired parts planes) name i)
+        (answers i) (λ same. rw (same_code asked name same) at (known ends))
+        (lists.tells name i below));
+    last = inr (now_some, rw now_last ends);
+  }
+
+-- one step of a loop over all of sorted names
+module _ (all : List Code) (k : ℕ) (asked : Code) (answers : ℕ → Option Bool) (parts : List Parts)
+    (planes : List Planes) (below : k < length all) (asked_is : asked ≡ get_or all k [])
+    (lists : Lists (take k all) answers parts planes) where
+  taken : take (k + 1) all ≡ take k all ++ asked ∷ []
+  taken = rw asked_is (take_more all k [] below)
+
+  in_order : IsSorted code_cmp all → 0 < length (take k all)
+      → is_lt (code_cmp asked (get_or (take k all) (length (take k all) - 1) [])) ≡ false
+  in_order sorted some =
+      let long = length-take-le k all (omega (arith, below)) in
+      let here : k - 1 + 1 ≡ k = omega (arith, long, some) in
+      rw (long, get_or-take k all (k - 1) [] (omega (arith, long, some)), asked_is)
+      (rw here at (sorted (k - 1) [] (omega arith) (omega (arith, below, long, some))))
+
+  pub Lists-pushed : IsSorted code_cmp all → (part : Parts) (plane : Planes) → code part ≡ asked
+      → ((i : ℕ) → lane i plane ≡ answers i) → (EndsWith parts asked → ⊥)
+      → Lists (take (k + 1) all) answers (parts ++ part ∷ []) (planes ++ plane ∷ [])
+  Lists-pushed sorted part plane same lanes apart =
+      rw taken (Lists-push (take k all) asked answers parts planes lists part plane same lanes apart
+      (in_order sorted))
+
+  pub Lists-kept : EndsWith parts asked → Lists (take (k + 1) all) answers parts planes
+  Lists-kept ends = rw taken (Lists-again (take k all) asked answers parts planes lists ends)
 
 -- One lane.
 
@@ -157,34 +297,6 @@ one_lane-other (suc n) answer (suc i) apart =
 
 -- The facts of one target.
 
-or_false : (x : Option Bool) → kleene_or x (Some false) ≡ x
-or_false (Some true) = refl
-or_false (Some false) = refl
-or_false None = refl
-
--- the answer of what is named as true, and as unknown, in a lane that was false
-named_answer : (as_true as_unknown : Bool) (old mid new : Option Bool) → old ≡ Some false
-    → mid ≡ (if as_true then kleene_or old (Some true) else old)
-    → new ≡ (if as_unknown then kleene_or mid None else mid)
-    → new ≡ (if as_true then Some true else (if as_unknown then None else Some false))
-named_answer true true old mid new was first second =
-    second ∙ ap (λ x. kleene_or x None) (first ∙ ap (λ x. kleene_or x (Some true)) was)
-named_answer true false old mid new was first second =
-    second ∙ first ∙ ap (λ x. kleene_or x (Some true)) was
-named_answer false true old mid new was first second =
-    second ∙ ap (λ x. kleene_or x None) (first ∙ was)
-named_answer false false old mid new was first second = second ∙ first ∙ was
-
--- a lane in which false is joined stays as it is
-kept_answer : (as_true as_unknown : Bool) (old mid new : Option Bool)
-    → mid ≡ (if as_true then kleene_or old (Some false) else old)
-    → new ≡ (if as_unknown then kleene_or mid (Some false) else mid) → new ≡ old
-kept_answer true true old mid new first second =
-    second ∙ or_false mid ∙ first ∙ or_false old
-kept_answer true false old mid new first second = second ∙ first ∙ or_false old
-kept_answer false true old mid new first second = second ∙ or_false mid ∙ first
-kept_answer false false old mid new first second = second ∙ first
-
 IsAnswer-named : (facts : FactTexts) (question : Question) (as_true as_unknown : Bool)
     (answer : Option Bool) → (as_true ≡ true) ↔ IsNamed facts.true_texts question
     → (as_unknown ≡ true) ↔ IsNamed facts.unknown_texts question
@@ -200,80 +312,125 @@ IsAnswer-named facts question false false answer trues unknowns is =
       is,
     ))
 
-pub JoinsTarget-both : (true_names unknown_names : List Code) (n : ℕ)
-    (as_true as_unknown : Planes) (old mid new : Index) → n < 64
+-- the answer of what is named as true, and as unknown
+named_answer : (as_true as_unknown : Bool) (answer : Option Bool)
+    → answer ≡ kleene_or (if as_true then Some true else Some false)
+    (if as_unknown then None else Some false)
+    → answer ≡ (if as_true then Some true else (if as_unknown then None else Some false))
+named_answer true true answer is = is
+named_answer true false answer is = is
+named_answer false true answer is = is
+named_answer false false answer is = is
+
+-- a lane in which all is false
+false_answer : (as_true as_unknown : Bool)
+    → kleene_or (if as_true then Some false else Some false)
+    (if as_unknown then Some false else Some false) ≡ Some false
+false_answer true true = refl
+false_answer true false = refl
+false_answer false true = refl
+false_answer false false = refl
+
+pub TellsTarget-both : (true_names unknown_names : List Code) (n : ℕ)
+    (as_true as_unknown : ℕ → Option Bool) (true_ones unknown_ones both : List Entry) → n < 64
     → AreNames true_names → AreNames unknown_names
-    → EachLane as_true (one_lane n (Some true)) → EachLane as_unknown (one_lane n None)
-    → Joins true_names as_true old mid → Joins unknown_names as_unknown mid new
-    → JoinsTarget (facts_in true_names unknown_names) n old new
-JoinsTarget-both true_names unknown_names n as_true as_unknown old mid new within named named'
-    lanes lanes' first second = record {
-      here = λ question was.
+    → ((i : ℕ) → i < 64 → as_true i ≡ one_lane n (Some true) i)
+    → ((i : ℕ) → i < 64 → as_unknown i ≡ one_lane n None i)
+    → TellsEach true_names as_true true_ones → TellsEach unknown_names as_unknown unknown_ones
+    → Joins true_ones unknown_ones both → TellsTarget (facts_in true_names unknown_names) n both
+TellsTarget-both true_names unknown_names n as_true as_unknown true_ones unknown_ones both within
+    named named' lanes lanes' tells tells' joins = record {
+      here = λ question.
           let name = code_of question in
-          let one =
-          rw (lanes n within ∙ one_lane-here n (Some true)) at (first question n within) in
-          let two = rw (lanes' n within ∙ one_lane-here n None) at (second question n within) in
+          let one = rw (lanes n within ∙ one_lane-here n (Some true)) at (tells name n within) in
+          let two = rw (lanes' n within ∙ one_lane-here n None) at (tells' name n within) in
           IsAnswer-named (facts_in true_names unknown_names) question (is_among true_names name)
-          (is_among unknown_names name) (told new name n)
+          (is_among unknown_names name) (told both name n)
           (is_among-IsNamed true_names question named)
           (is_among-IsNamed unknown_names question named')
-          (named_answer (is_among true_names name) (is_among unknown_names name) (told old name n)
-          (told mid name n) (told new name n) was one two);
+          (named_answer (is_among true_names name) (is_among unknown_names name)
+          (told both name n) (rw (one, two) at (joins name n within)));
       others = λ question i below apart.
           let name = code_of question in
-          let one =
-          rw (lanes i below ∙ one_lane-other n (Some true) i apart) at (first question i below) in
-          let two =
-          rw (lanes' i below ∙ one_lane-other n None i apart) at (second question i below) in
-          kept_answer (is_among true_names name) (is_among unknown_names name) (told old name i)
-          (told mid name i) (told new name i) one two;
+          let one = rw (lanes i below ∙ one_lane-other n (Some true) i apart)
+          at (tells name i below) in
+          let two = rw (lanes' i below ∙ one_lane-other n None i apart) at (tells' name i below) in
+          rw (one, two) at (joins name i below)
+          ∙ false_answer (is_among true_names name) (is_among unknown_names name);
     }
 
--- The index of targets.
+-- nothing is joined
+pub Joins-none : (entries : List Entry) → Joins entries [] entries
+Joins-none entries name i below = sym (or_false (told entries name i))
 
-pub IsIndexOf-none : (index : Index) → index.entries ≡ [] → IsIndexOf [] index
-IsIndexOf-none index empty = record {
+-- The facts of several targets.
+
+pub TellsTargets-none : (first : ℕ) → TellsTargets [] first []
+TellsTargets-none first = record {
   answers = λ i facts is. absurd cc;
-  untold = λ i past below question. rw empty refl;
+  others = λ i outside below question. refl;
 }
 
-pub IsIndexOf-more : (targets : List FactTexts) (facts : FactTexts) (n : ℕ) (old new : Index)
-    → n ≡ length targets → n < 64 → IsIndexOf targets old → JoinsTarget facts n old new
-    → IsIndexOf (targets ++ facts ∷ []) new
-IsIndexOf-more targets facts n old new at within are joins = record {
-  answers = λ i target found question.
-      let all = targets ++ facts ∷ [] in
-      let long = length-append targets (facts ∷ []) in
-      let inside = slice_get_within all i target found in ⊎_elim
-      (λ below.
-      rw (joins.others question i (omega (arith, below)) (λ same. absurd (omega arith)))
-      (are.answers i target (sym (slice_get-append targets (facts ∷ []) i below) ∙ found)
-      question))
+pub TellsTargets-one : (facts : FactTexts) (first : ℕ) (entries : List Entry)
+    → TellsTarget facts first entries → TellsTargets (facts ∷ []) first entries
+TellsTargets-one facts first entries tells = record {
+  answers = λ i target is question.
+      let inside = slice_get_within (facts ∷ []) i target is in
+      let here : i ≡ 0 = omega (arith, inside) in
+      let there : first + i ≡ first = omega (arith, here) in
+      let same : facts ≡ target = same_Some facts target (rw here at is) in
+      rw (there, ← same) (tells.here question);
+  others = λ i outside below question.
+      tells.others question i below (λ same. absurd (⊎_elim
+      (λ before. let wrong : ⊥ = omega (arith, before, same) in wrong)
+      (λ past. let wrong : ⊥ = omega (arith, past, same) in wrong) outside));
+}
+
+-- a list of one target
+pub only_target : (targets : List FactTexts) (facts : FactTexts) → length targets ≡ 1
+    → facts ≡ get_or targets 0 facts → targets ≡ facts ∷ []
+only_target [] facts one is = absurd (omega arith)
+only_target (target ∷ []) facts one is = ap (λ facts. facts ∷ []) (sym is)
+only_target (target ∷ other ∷ targets) facts one is = absurd (omega arith)
+
+pub TellsTargets-both : (front back : List FactTexts) (first second : ℕ)
+    (one other both : List Entry) → second ≡ first + length front
+    → second + length back ≤ 64 → TellsTargets front first one → TellsTargets back second other
+    → Joins one other both → TellsTargets (front ++ back) first both
+TellsTargets-both front back first second one other both at few tells tells' joins = record {
+  answers = λ i target is question.
+      let name = code_of question in
+      let long = length-append front back in
+      let inside = slice_get_within (front ++ back) i target is in
+      let below : first + i < 64 = omega (arith, few, long, inside, at) in ⊎_elim
+      (λ before.
+      rw (
+        joins name (first + i) below,
+        tells'.others (first + i) (inl (omega (arith, at, before))) below question,
+        or_false (told one name (first + i)),
+      ) (tells.answers i target (sym (slice_get-append front back i before) ∙ is) question))
       (λ past.
-      let last : i ≡ n = omega arith in
-      let same : facts ≡ target = same_Some facts target
-      (sym (slice_get-append_seam targets facts []) ∙ ap (slice_get all) (sym (last ∙ at))
-      ∙ found) in
-      rw (last, ← same)
-      (joins.here question (are.untold n (omega arith) within question)))
-      (cases_lt i (length targets));
-  untold = λ i past below question.
-      let long = length-append targets (facts ∷ []) in
-      joins.others question i below (λ same. absurd (omega arith))
-      ∙ are.untold i (omega arith) below question;
+      let there : first + i ≡ second + (i - length front) = omega (arith, at, past) in
+      rw (
+        joins name (first + i) below,
+        tells.others (first + i) (inr (omega (arith, past))) below question,
+        false_or (told other name (first + i)),
+        there,
+      ) (tells'.answers (i - length front) target (sym (slice_get-append-add front back
+      (i - length front) i (omega (arith, past))) ∙ is) question)) (cases_lt i (length front));
+  others = λ i outside below question.
+      let name = code_of question in
+      let long = length-append front back in
+      rw (
+        joins name i below,
+        tells.others i (⊎_elim (λ before. inl before)
+            (λ past. inr (omega (arith, past, long))) outside) below question,
+        tells'.others i (⊎_elim (λ before. inl (omega (arith, before, at)))
+            (λ past. inr (omega (arith, past, long, at))) outside) below question,
+      ) refl;
 }
 
--- What the index answers.
-
-or_true : (x : Option Bool) → kleene_or (Some true) x ≡ Some true
-or_true (Some true) = refl
-or_true (Some false) = refl
-or_true None = refl
-
-false_or : (x : Option Bool) → kleene_or (Some false) x ≡ x
-false_or (Some true) = refl
-false_or (Some false) = refl
-false_or None = refl
+-- What entries answer.
 
 unknown_or : (given : Otherwise) (question : Question)
     → kleene_or None (unnamed_answer given question) ≡ None
@@ -291,16 +448,17 @@ IsAnswer-otherwise facts given question answer = ⊎_elim
     inr (inr (not, unknown, rw is (false_or (unnamed_answer given question))))))
 
 -- the lanes of what is told, joined to the answer to a predicate that no fact names
-pub InLanes-told : (targets : List FactTexts) (index : Index) (given : Otherwise)
+pub InLanes-told : (targets : List FactTexts) (entries : List Entry) (given : Otherwise)
     (question : Question) (name : Code) (unnamed : Option Bool) (found others joined : Planes)
-    → length targets ≤ 64 → IsIndexOf targets index → name ≡ code_of question
-    → unnamed ≡ unnamed_answer given question → EachLane found (told index name)
+    → length targets ≤ 64 → TellsTargets targets 0 entries → name ≡ code_of question
+    → unnamed ≡ unnamed_answer given question → EachLane found (told entries name)
     → EachLane others (λ i. unnamed)
     → EachLane joined (λ i. kleene_or (lane i found) (lane i others))
     → InLanes (λ facts. IsAnswer facts given) targets question joined
-InLanes-told targets index given question name unnamed found others joined few are same is_unnamed
-    lanes_found lanes_others lanes i target is =
+InLanes-told targets entries given question name unnamed found others joined few tells same
+    is_unnamed lanes_found lanes_others lanes i target is =
     let below : i < 64 = omega (arith, slice_get_within targets i target is) in
+    let here : 0 + i ≡ i = omega arith in
     rw (lanes i below, lanes_found i below, lanes_others i below, is_unnamed, same)
-    (IsAnswer-otherwise target given question (told index (code_of question) i)
-    (are.answers i target is question))
+    (IsAnswer-otherwise target given question (told entries (code_of question) i)
+    (rw here at (tells.answers i target is question)))

@@ -1,6 +1,8 @@
 pub mod AuditLemmas
+pub mod EntryLemmas
 pub mod FactLemmas
 pub mod IndexLemmas
+pub mod MergeLemmas
 pub mod NameLemmas
 pub mod OneOutput
 pub mod OutputLemmas

@@ -27,7 +27,8 @@ use Rattle.cfgx_engine.specs.declared.resolve.facts.Otherwise.TheVariants as oth
 use Rattle.cfgx_engine.specs.{Input.input_limit, Request.Request, Request.request_of}
 use Rattle.cfgx_engine.specs.Output.{HasValue, Output, ValueBy, answer_on, result_output}
 use Rattle.cfgx_engine.specs.Output.{tree_output, unknown_triple, usage, value_by}
-use Rattle.cfgx_engine.specs.{Prints.{Picks, Prints, not_utf8, too_long}, Sections.section_text}
+use Rattle.cfgx_engine.specs.Prints.{Picks, Prints, input_not_utf8, too_long}
+use Rattle.cfgx_engine.specs.Sections.{section_text}
 use Rattle.cfgx_engine.specs.Readings.{GivesAll, ParsesAs}
 use Rattle.cfgx_engine.proofs.ReadingLemmas.{GivesEach, GivesEach-all, first_fails, later_fails}
 use Rattle.std.specs.Str.{IsUtf8}
@@ -135,7 +136,7 @@ Picks-decided answer input one other this that =
     (λ long. decided too_long (omega arith) one other (this.of_long long) (that.of_long long))
     (λ short. ⊎_elim
     (λ utf8. lines one other (this.of_text short utf8) (that.of_text short utf8))
-    (λ not. decided not_utf8 (omega arith) one other (this.of_other_bytes short not)
+    (λ not. decided input_not_utf8 (omega arith) one other (this.of_other_bytes short not)
     (that.of_other_bytes short not)) (is_text input)) (is_long input)
 
 -- a request has one output at most on an input
@@ -327,7 +328,7 @@ module _ (Q : List ℕ → Type 0) (tested : (text : List ℕ) → is_utf8 text 
           of_text = λ _ _. printed.1;
         },
       )) (λ not. (
-        not_utf8,
+        input_not_utf8,
         record {
           of_long = λ long. absurd (omega (arith, long, short));
           of_other_bytes = λ _ _. refl;

@@ -22,13 +22,13 @@ use Rattle.cfgx_engine.specs.Streams.{TakesFront}
 abbrev pub too_long : Output
 too_long = faulty_output (text_line (codes "input too long"))
 
-abbrev pub not_utf8 : Output
-not_utf8 = faulty_output (text_line (codes "input is not UTF-8"))
+abbrev pub input_not_utf8 : Output
+input_not_utf8 = faulty_output (text_line (codes "input is not UTF-8"))
 
 -- the output of `pick` on the input, with these answers
 pub record Picks (answer : Question → Option Bool) (input : List ℕ) (output : Output) : Type 0 where
   pub of_long : input_limit < length input → output ≡ too_long
-  pub of_other_bytes : length input ≤ input_limit → ¬ IsUtf8 input → output ≡ not_utf8
+  pub of_other_bytes : length input ≤ input_limit → ¬ IsUtf8 input → output ≡ input_not_utf8
   pub of_text : length input ≤ input_limit → IsUtf8 input
       → PrintsLines answer (map line_of (lines_of input)) output
 

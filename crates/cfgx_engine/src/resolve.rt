@@ -26,6 +26,7 @@ use cfg_expr::{Decision, Expression, Predicate};
 pub use facts::{Facts, FactsError, Otherwise};
 use std::alloc::{AllocError, Global};
 use std::fmt;
+use std::mem::swap;
 
 /// A section of a manifest, which counts if its condition is true.
 #[derive_where(Debug)]
@@ -125,15 +126,16 @@ fn ask_each<A: SmallAllocator, M: TargetMatcher>(
 #[derive(Drop)]
 pub struct Decider<A: SmallAllocator = Global> {
     alloc: A,
-    /// What the target answered to each predicate of the last condition, in order. Empty if the
-    /// last call failed
+    /// What the target answered to each predicate of the last condition that was decided, in order
     pub answers: Vec<Option<bool>, A>,
-    /// The decision on the last condition that was decided
+    /// The decision on this condition
     pub decision: Decision<A>,
+    /// Where the next answers are gathered
+    gathered: Vec<Option<bool>, A>,
 }
 
 impl<A: SmallAllocator> Decider<A> {
-    /// Returns a decider without answers, whose decision is `Decision::default()`. Takes no memory.
+    /// Returns a decider without answers, whose decision is `Known(false)`. Takes no memory.
     pub fn new(alloc: A) -> Self
         ensures answers { result.answers.items ≡ [] }
         ensures decision { held result.decision ≡ Held.known false }
@@ -141,7 +143,8 @@ impl<A: SmallAllocator> Decider<A> {
         Decider {
             alloc,
             answers: Vec::new(alloc),
-            decision: Decision::default(),
+            decision: Decision::Known(false),
+            gathered: Vec::new(alloc),
         }
     }
 
@@ -149,12 +152,13 @@ impl<A: SmallAllocator> Decider<A> {
     /// `Expression::decide` does. The matcher is asked once for each predicate on the target. Every
     /// other predicate is unknown.
     ///
-    /// `answers` and `decision` are replaced. Their memory is reused.
+    /// `answers` and `decision` are replaced. Their memory is reused: answers are gathered in the
+    /// memory of those before the last ones.
     ///
     /// # Errors
     ///
-    /// `AllocError`: the allocator refused memory. `answers` is then empty, and `decision` keeps
-    /// the value or the fillings that it holds.
+    /// `AllocError`: the allocator refused memory. `answers` and `decision` then hold what they
+    /// held.
     pub fn decide<M: TargetMatcher>(
         &mut self,
         condition: &Condition<'_>,
@@ -166,18 +170,13 @@ impl<A: SmallAllocator> Decider<A> {
         ensures answers { OnOk result ((one : HasOneTree condition.now)
             × (self.new.answers.items
             ≡ map (answer_by (M.answer matcher.now)) (asked one.tree))) }
-        ensures refused { OnErr result ((self.new.answers.items ≡ [])
+        ensures refused { OnErr result ((self.new.answers.items ≡ self.old.answers.items)
             × (held self.new.decision ≡ held self.old.decision)) }
     {
-        if ask_each(matcher, condition.predicates(), &mut self.answers).is_ok() {
-            let answers = self.answers.as_slice();
-            let decided = condition.decide(self.alloc, answers, &mut self.decision);
-            if decided.is_ok() {
-                return decided;
-            }
-        }
-        self.answers.clear();
-        Err(AllocError)
+        ask_each(matcher, condition.predicates(), &mut self.gathered)?;
+        condition.decide(self.alloc, self.gathered.as_slice(), &mut self.decision)?;
+        swap(&mut self.answers, &mut self.gathered);
+        Ok(())
     }
 }
 

@@ -1,11 +1,10 @@
 -- Predicates in code, by which those that facts name are ordered and found.
-use Rattle.std.specs.Prelude.{◌≡◌, ◌≤◌, ◌==◌, ◌+◌, ℕ, Bool, List, [], ◌∷◌, ◌++◌, codes, drop}
-use Rattle.std.specs.Prelude.{if◌then◌else◌, map, nat_eq, slice_index_or, take}
+use Rattle.std.specs.Prelude.{◌≡◌, ◌≤◌, ◌==◌, ◌+◌, ℕ, Bool, List, [], ◌∷◌, codes, drop}
+use Rattle.std.specs.Prelude.{if◌then◌else◌, length, map, nat_eq, slice_index_or, take}
 use Rattle.std.specs.Cmp.Lexicographic.{pointwise, slice_cmp}
 use Rattle.std.specs.declared.cmp.Ordering.{Ordering}
-use Rattle.std.specs.Hash as fed
 use Rattle.std.specs.{List.All, List.Sorted.IsSorted}
-use Rattle.std.specs.Ordering.{nat_cmp, on}
+use Rattle.std.specs.Ordering.{nat_cmp}
 use Rattle.cfgx_fields.specs.Endian.{endian_rank}
 use Rattle.cfgx_fields.specs.declared.endian.Endian.TheVariants.{big, little}
 use Rattle.cfgx_fields.specs.declared.atomic.HasAtomic.{HasAtomic}
@@ -16,16 +15,15 @@ use Rattle.cfgx_engine.specs.declared.resolve.{names.Named.Named, parts.Parts.Pa
 use Rattle.cfgx_engine.specs.Facts.{FactTexts}
 use Rattle.cfgx_fields.specs.declared.text_key.TextKey.TheVariants as key
 use Rattle.cfgx_parser.specs.Kinds.{kind_number, kind_of}
-use Rattle.cfgx_parser.specs.nodes.Located.{inner_target, target_text}
-use Rattle.cfgx_parser.specs.declared.nodes.InnerTarget.{InnerTarget}
-use Rattle.cfgx_parser.specs.declared.nodes.InnerTarget.TheVariants as target
 
--- the numbers of the kind and of the value, the key, and the value as a text
+-- the numbers of the kind and of the value, the lengths of the key and of the value, the key, and
+-- the value as a text
 abbrev pub Code : Type 0
 Code = List (List ℕ)
 
 abbrev pub code_with : ℕ → ℕ → List ℕ → List ℕ → Code
-code_with kind number key value = (kind ∷ number ∷ []) ∷ key ∷ value ∷ []
+code_with kind number key value =
+    (kind ∷ number ∷ length key ∷ length value ∷ []) ∷ key ∷ value ∷ []
 
 -- the code of parts
 abbrev pub code : Parts → Code
@@ -35,30 +33,11 @@ code parts = code_with parts.kind parts.number parts.key.now parts.value.now
 abbrev pub code_eq : Code → Code → Bool
 code_eq = pointwise (pointwise nat_eq)
 
--- whether two parts have the same code
-abbrev pub parts_eq : Parts → Parts → Bool
-parts_eq = on code code_eq
-
--- what a code feeds a hasher
-abbrev pub hashed : Code → List (List ℕ)
-hashed ((kind ∷ number ∷ []) ∷ texts) = fed.u32 kind ++ fed.u16 number ++ texts
-hashed _ = []
-
--- the number that is asked of a target, or the rank of a byte order; else 0
-abbrev pub target_number : InnerTarget → ℕ
-target_number (target.Endian order) = endian_rank order
-target_number (target.HasAtomic (IntegerSize bits)) = bits
-target_number (target.PointerWidth bits) = bits
-target_number _ = 0
-
--- the text that is asked of a target; that of an atomic of the width `ptr` is `ptr`
-abbrev pub text_with : List ℕ → InnerTarget → List ℕ
-text_with text (target.HasAtomic Pointer) = codes "ptr"
-text_with text _ = text
-
--- the value, if it is a number or a byte order, else 0
+-- the value, if it is a number, or the rank of a byte order; else 0
 abbrev pub number_of : Question → ℕ
-number_of (Question.target question) = target_number (inner_target question)
+number_of (Question.target (TargetQuestion.endian order)) = endian_rank order
+number_of (Question.target (TargetQuestion.has_atomic (IntegerSize bits))) = bits
+number_of (Question.target (TargetQuestion.pointer_width bits)) = bits
 number_of _ = 0
 
 -- the key, if the kind does not say it, else an empty text
@@ -67,12 +46,13 @@ key_of (Question.flag key) = key
 key_of (Question.key_value key value) = key
 key_of _ = []
 
--- the value, if it is a text, else an empty one
+-- the value, if it is a text, else an empty one; that of an atomic of the width `ptr` is `ptr`
 abbrev pub text_of : Question → List ℕ
 text_of (Question.key_value key value) = value
 text_of (Question.feature text) = text
 text_of (Question.target_feature text) = text
-text_of (Question.target question) = text_with (target_text question) (inner_target question)
+text_of (Question.target (TargetQuestion.text key text)) = text
+text_of (Question.target (TargetQuestion.has_atomic Pointer)) = codes "ptr"
 text_of _ = []
 
 -- the code of a question, which no other question has
@@ -81,7 +61,7 @@ code_of question =
     code_with (kind_number (kind_of question)) (number_of question) (key_of question)
     (text_of question)
 
--- the order of codes: first by kind
+-- the order of codes: first by kind, number and lengths
 abbrev pub code_cmp : Code → Code → Ordering
 code_cmp = slice_cmp (slice_cmp nat_cmp)
 
@@ -126,7 +106,7 @@ questions =
 
 -- the question of a code
 abbrev pub question_in : Code → Question
-question_in ((kind ∷ number ∷ []) ∷ key ∷ value ∷ []) =
+question_in ((kind ∷ number ∷ key_len ∷ value_len ∷ []) ∷ key ∷ value ∷ []) =
     slice_index_or questions kind (λ number name text. Question.test) number key value
 question_in _ = Question.test
 

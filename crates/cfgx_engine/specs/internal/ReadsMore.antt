@@ -4,7 +4,7 @@ use Rattle.std.specs.Str.{IsUtf8}
 use Rattle.cfgx_grammar.specs.Question.{Question}
 use Rattle.cfgx_engine.specs.Output.{Output}
 use Rattle.cfgx_engine.specs.Input.{input_limit}
-use Rattle.cfgx_engine.specs.Prints.{not_utf8, too_long}
+use Rattle.cfgx_engine.specs.Prints.{input_not_utf8, too_long}
 use Rattle.cfgx_engine.specs.Sections.{PrintsLines, line_of, lines_of}
 use Rattle.cfgx_engine.specs.declared.engine.reading.Input.{Input}
 use Rattle.std.specs.Io.KnownBytes.{Consumes, IsAtEnd}
@@ -30,6 +30,6 @@ IsShort input.TooLong = Unit {0}
 
 -- the output of `pick` on an input that was read, with these answers
 abbrev pub PicksFrom : {A : Type 0} → (Question → Option Bool) → Input A → Output → Type 0
-PicksFrom answer (input.Bytes bytes) output = (¬ IsUtf8 bytes.items → output ≡ not_utf8)
+PicksFrom answer (input.Bytes bytes) output = (¬ IsUtf8 bytes.items → output ≡ input_not_utf8)
     × (IsUtf8 bytes.items → PrintsLines answer (map line_of (lines_of bytes.items)) output)
 PicksFrom answer input.TooLong output = output ≡ too_long

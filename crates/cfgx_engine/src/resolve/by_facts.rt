@@ -1,5 +1,5 @@
 //! The values of many conditions on many targets that answer by their facts.
-ghost use Rattle.std.specs.Prelude.{◌≡◌, ◌≤◌, length, map};
+ghost use Rattle.std.specs.Prelude.{◌≡◌, ◌≤◌, ◌+◌, length, map};
 ghost use Rattle.std.specs.Prelude.{Err, IfErr, IfOk, IfSome, OnOk};
 ghost use Rattle.std.specs.List.{AllByRecursion, flat_map};
 ghost use Rattle.cfgx_syntax.specs.Error.{failure_of};
@@ -10,12 +10,13 @@ ghost use Rattle.cfgx_engine.specs.Audits.{AreValues, FollowsConditions, IsFirst
 ghost use Rattle.cfgx_engine.specs.Facts.{IsAnswer};
 ghost use Rattle.cfgx_engine.specs.Readings.{ParsesAs};
 ghost use Rattle.cfgx_engine.specs.Request.{texts};
+ghost use Rattle.cfgx_engine.specs.internal.Index.{TellsTargets};
 ghost use Rattle.cfgx_engine.specs.internal.InLanes.{AddsEach, InLanes, TellsValue};
 ghost use Rattle.cfgx_engine.specs.internal.Shows.{Fails};
 
 use super::auditing::{Piece, push_piece};
 use super::facts::{Facts, Otherwise, unnamed_answer};
-use super::index::{Index, all_lanes, answers_to};
+use super::index::{Entries, all_lanes, merged};
 use super::parts::Parts;
 use cfg_expr::Predicate;
 use cfg_expr::error::Failure;
@@ -23,40 +24,62 @@ use cfg_expr::expr::logic::{Kleene64, Logic};
 use cfg_expr::expr::{Condition, ConditionReader};
 use cfg_expr::memory::SmallAllocator;
 use std::alloc::{AllocError, Allocator, Global};
-use std::collections::HashMap;
 use std::marker::Model;
 
-/// At most 64 targets, and the index of their facts. Contracts see the targets.
+/// At most 64 targets, and what their facts say. Contracts see the targets.
 #[derive(Drop)]
 struct Indexed<'a, A: SmallAllocator> {
     targets: &'a [Facts<A>],
-    index: Index<'a, A>,
+    /// For each predicate that a fact names, the answers of the targets
+    entries: Entries<'a, A>,
 }
 
 impl<'a, A: SmallAllocator> Model for Indexed<'a, A> {
     ghost use Rattle.std.specs.Prelude.{◌≤◌, length, List};
     ghost use Rattle.cfgx_engine.specs.Facts.{FactTexts};
-    ghost use Rattle.cfgx_engine.specs.internal.Index.{IsIndexOf};
+    ghost use Rattle.cfgx_engine.specs.internal.Index.{TellsTargets};
 
     ghost Value = { List FactTexts };
 
     ghost view = { λ indexed. indexed.targets.now };
 
     ghost invariant = { λ indexed. (length indexed.targets.now ≤ 64)
-        × IsIndexOf indexed.targets.now indexed.index };
+        × TellsTargets indexed.targets.now 0 indexed.entries };
+}
+
+/// Returns an entry for each predicate that facts of the targets name. The answers of the targets
+/// stand in the lanes from `first` on, and every other lane is false.
+///
+/// The targets are halved and the entries of both halves merged, so an entry is copied once for
+/// each halving. There are at most 64 targets, so the recursion is at most seven calls deep.
+fn entries_of<'a, A: SmallAllocator>(
+    alloc: A,
+    targets: &'a [Facts<A>],
+    first: usize,
+) -> Result<Entries<'a, A>, AllocError>
+    requires { first + length targets.now ≤ 64 }
+    ensures { IfOk result (λ entries. TellsTargets targets.now first entries) }
+{
+    if targets.is_empty() {
+        return Ok(Entries::none(alloc));
+    }
+    if targets.len() == 1 {
+        return targets[0].entries(alloc, first);
+    }
+    let (front, back) = targets.split_at(targets.len() / 2);
+    let front_entries = entries_of(alloc, front, first)?;
+    let back_entries = entries_of(alloc, back, first + front.len())?;
+    merged(alloc, &front_entries, &back_entries)
 }
 
 impl<'a, A: SmallAllocator> Indexed<'a, A> {
-    /// Makes the index of at most 64 targets.
+    /// Finds what the facts of at most 64 targets say.
     fn of(alloc: A, targets: &'a [Facts<A>]) -> Result<Indexed<'a, A>, AllocError>
         requires { length targets.now ≤ 64 }
         ensures { IfOk result (λ indexed. indexed ≡ targets.now) }
     {
-        let mut index = HashMap::new(alloc);
-        for lane in 0..targets.len() {
-            targets[lane].join_to(&mut index, lane)?;
-        }
-        Ok(Indexed { targets, index })
+        let entries = entries_of(alloc, targets, 0)?;
+        Ok(Indexed { targets, entries })
     }
 
     /// Returns the number of targets.
@@ -72,7 +95,7 @@ impl<'a, A: SmallAllocator> Indexed<'a, A> {
         ensures { InLanes (λ facts. IsAnswer facts otherwise) self.now
             (question_of predicate.now) result }
     {
-        let named = answers_to(&self.index, &Parts::of(predicate));
+        let named = self.entries.answers_to(&Parts::of(predicate));
         // If no fact of a target names the predicate, its lane is false and takes the unnamed
         // answer. Else it is true or unknown, and stays so, since that answer is false or unknown.
         named.or(all_lanes(unnamed_answer(predicate, otherwise)))
@@ -106,7 +129,7 @@ impl<A: SmallAllocator> Piece<Facts<A>> for ByFacts<'_, '_, A> {
     }
 }
 
-/// Returns the targets in pieces of 64, each with its index.
+/// Returns the targets in pieces of 64, each with what its facts say.
 fn indexed_pieces<A: SmallAllocator>(
     alloc: A,
     targets: &[Facts<A>],
@@ -137,7 +160,7 @@ pub struct AuditError<A: Allocator = Global> {
 /// of condition `i` on target `j`. A target answers by its facts, and `otherwise` is the answer to
 /// a predicate that no fact names.
 ///
-/// Targets are taken in pieces of 64, and the facts of each piece are indexed once. Then each
+/// Targets are taken in pieces of 64, and the facts of each piece are sorted once. Then each
 /// condition is read once. For each piece, each predicate of the condition is looked up once, and
 /// the condition is evaluated once.
 ///

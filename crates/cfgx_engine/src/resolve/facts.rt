@@ -1,5 +1,5 @@
 //! Facts of a target, and what they answer to predicates.
-ghost use Rattle.std.specs.Prelude.{◌≡◌, ◌<◌, ◌↔◌, Err, IfErr, IsTrue, OnOk, false};
+ghost use Rattle.std.specs.Prelude.{◌≡◌, ◌<◌, ◌↔◌, Err, IfErr, IfOk, IsTrue, OnOk, false};
 ghost use Rattle.std.specs.Cmp.Rules.{comparing};
 ghost use Rattle.std.proofs.Common.{rules};
 ghost use Rattle.cfgx_syntax.specs.Stripping.{strip};
@@ -8,7 +8,7 @@ ghost use Rattle.cfgx_engine.specs.Facts.{IsAnswer, IsFlag, IsRustcFact, ReadsFa
 ghost use Rattle.cfgx_engine.specs.Facts.{fact_text, otherwise_eq, unnamed_answer};
 ghost use Rattle.cfgx_grammar.specs.Question.{Question};
 ghost use Rattle.cfgx_engine.specs.declared.resolve.facts.Otherwise.{Otherwise};
-ghost use Rattle.cfgx_engine.specs.internal.Index.{JoinsTarget};
+ghost use Rattle.cfgx_engine.specs.internal.Index.{TellsTarget};
 ghost use Rattle.cfgx_engine.specs.internal.Names.{AreNames, code, code_of, facts_in};
 ghost use Rattle.cfgx_engine.specs.internal.ReadsFacts.{AddsFact, AddsText, accepts};
 ghost use Rattle.cfgx_engine.specs.internal.ReadsFacts.{error_at, passes_over};
@@ -16,7 +16,7 @@ ghost use Rattle.cfgx_engine.specs.internal.Shows.{Fails};
 ghost use Rattle.cfgx_engine.specs.Readings.{ParsesAs};
 ghost use Rattle.cfgx_engine.specs.Request.{texts};
 
-use super::index::{Index, one_lane};
+use super::index::{Entries, merged, one_lane};
 use super::names::Names;
 use super::parts::Parts;
 use cfg_expr::Predicate;
@@ -214,18 +214,15 @@ impl<A: SmallAllocator> Facts<A> {
         }
     }
 
-    /// Joins the answers of the facts to the lane `lane` of `index`. Before, the lane has to be
-    /// false for every predicate. It stays false for each that no fact names.
-    pub(super) fn join_to<'a>(
-        &'a self,
-        index: &mut Index<'a, A>,
-        lane: usize,
-    ) -> Result<(), AllocError>
+    /// Returns an entry for each predicate that the facts name. It has the answer of the facts in
+    /// the lane `lane`, and false in every other lane.
+    pub(super) fn entries<'a>(&'a self, alloc: A, lane: usize) -> Result<Entries<'a, A>, AllocError>
         requires { lane < 64 }
-        ensures { OnOk result (JoinsTarget self.now lane index.old index.new) }
+        ensures { IfOk result (λ entries. TellsTarget self.now lane entries) }
     {
-        self.true_names.join_to(index, one_lane(lane, Some(true)))?;
-        self.unknown_names.join_to(index, one_lane(lane, None))
+        let true_ones = self.true_names.entries(alloc, one_lane(lane, Some(true)))?;
+        let unknown_ones = self.unknown_names.entries(alloc, one_lane(lane, None))?;
+        merged(alloc, &true_ones, &unknown_ones)
     }
 }
 

@@ -1,42 +1,144 @@
-//! What the facts of at most 64 targets say of a predicate, found for all of them at once.
-ghost use Rattle.std.specs.Prelude.{◌≡◌, ◌<◌, ◌∷◌, [], OnOk};
+//! What the facts of at most 64 targets say of predicates, in sorted lists. A binary search finds a
+//! predicate for all of these targets at once.
+ghost use Rattle.std.specs.Prelude.{◌≡◌, ◌<◌, ◌↔◌, drop, IfOk, IsTrue, if◌then◌else◌};
+ghost use Rattle.std.specs.List.{slice_get};
+ghost use Rattle.std.specs.Ordering.{is_le};
 ghost use Rattle.cfgx_syntax.specs.Kleene.{EachLane};
-ghost use Rattle.cfgx_engine.specs.internal.Index.{Joins, one_lane, told};
+ghost use Rattle.cfgx_engine.specs.internal.Index.{AreNextAnswers, EndsWith, Joins, one_lane};
 ghost use Rattle.cfgx_engine.specs.internal.Names.{code};
 
 use super::parts::Parts;
 use cfg_expr::expr::logic::{Kleene64, Logic};
-use cfg_expr::memory::SmallAllocator;
-use std::alloc::AllocError;
-use std::collections::HashMap;
-use std::hash::{BuildHasherDefault, FoldHasher};
+use std::alloc::{AllocError, Allocator};
+use std::cmp::Ordering;
+use std::marker::Model;
 
-/// For each predicate that facts name, the answers of at most 64 targets, each in its lane.
-pub(super) type Index<'a, A> = HashMap<Parts<'a>, Kleene64, BuildHasherDefault<FoldHasher>, A>;
+/// Predicates that facts name, in order, and the answers of at most 64 targets to each of them. The
+/// lane of a target whose facts do not name the predicate is false.
+///
+/// Contracts see a list of entries.
+#[derive(Drop)]
+pub(super) struct Entries<'a, A: Allocator> {
+    asked: Vec<Parts<'a>, A>,
+    answers: Vec<Kleene64, A>,
+}
 
-/// Returns the answers that `index` has for the predicate with the parts `asked`: false in each
-/// lane if it has none.
-pub(super) fn answers_to<'a, A: SmallAllocator>(index: &Index<'a, A>, asked: &Parts<'a>) -> Kleene64
-    ensures { EachLane result (told index.now (code asked.now)) }
-{
-    match index.get(asked) {
-        Some(answers) => *answers,
-        None => Kleene64::bottom(),
+impl<'a, A: Allocator> Model for Entries<'a, A> {
+    ghost use Rattle.std.specs.Prelude.{◌≡◌, length, List};
+    ghost use Rattle.cfgx_engine.specs.internal.Index.{AreSorted, Entry, paired};
+
+    ghost Value = { List Entry };
+
+    ghost view = { λ entries. paired entries.asked.items entries.answers.items };
+
+    ghost invariant = { λ entries.
+        (length entries.asked.items ≡ length entries.answers.items)
+        × AreSorted (paired entries.asked.items entries.answers.items) };
+}
+
+impl<'a, A: Allocator> Entries<'a, A> {
+    ghost use Rattle.std.specs.Prelude.{◌≡◌, length, []};
+    ghost use Rattle.cfgx_engine.specs.internal.Index.{AreSorted, paired, told};
+
+    /// Returns no entries. Takes no memory.
+    pub(super) fn none(alloc: A) -> Entries<'a, A>
+    where
+        A: Copy,
+        ensures { result ≡ [] }
+    {
+        Entries {
+            asked: Vec::new(alloc),
+            answers: Vec::new(alloc),
+        }
+    }
+
+    /// Returns the entries of these predicates, which have to be in order, with these answers.
+    pub(super) fn of(asked: Vec<Parts<'a>, A>, answers: Vec<Kleene64, A>) -> Entries<'a, A>
+        requires as_many { length asked.items ≡ length answers.items }
+        requires sorted { AreSorted (paired asked.items answers.items) }
+        ensures { result ≡ paired asked.entry.items answers.items }
+    {
+        Entries { asked, answers }
+    }
+
+    /// Returns the answers to the predicate with the parts `asked`: false in each lane if there is
+    /// no entry.
+    pub(super) fn answers_to(&self, asked: &Parts<'_>) -> Kleene64
+        ensures { EachLane result (told self.now (code asked.now)) }
+    {
+        let names = self.asked.as_slice();
+        let answers = self.answers.as_slice();
+        match names.binary_search_by(|name| name.compare(asked)) {
+            Ok(place) => answers[place],
+            Err(_) => Kleene64::bottom(),
+        }
     }
 }
 
-/// Joins `answers` to those that `index` has for the predicate with the parts `asked`.
-pub(super) fn join<'a, A: SmallAllocator>(
-    index: &mut Index<'a, A>,
-    asked: &Parts<'a>,
-    answers: Kleene64,
-) -> Result<(), AllocError>
-    ensures { OnOk result (Joins (code asked.now ∷ []) answers index.old index.new) }
+/// Whether the last predicate is that with the parts `asked`.
+pub(super) fn ends_with(names: &[Parts<'_>], asked: &Parts<'_>) -> bool
+    ensures { IsTrue result ↔ EndsWith names.now (code asked.now) }
 {
-    let joined = answers_to(index, asked).or(answers);
-    match index.insert(*asked, joined) {
-        Ok(_) => Ok(()),
-        Err(_) => Err(AllocError),
+    match names.last() {
+        Some(last) => last.compare(asked).is_eq(),
+        None => false,
+    }
+}
+
+/// Merges two lists into one: a predicate that both have gets the answers of both, joined.
+pub(super) fn merged<'a, A: Allocator + Copy>(
+    alloc: A,
+    one: &Entries<'a, A>,
+    other: &Entries<'a, A>,
+) -> Result<Entries<'a, A>, AllocError>
+    ensures { IfOk result (λ entries. Joins one.now other.now entries) }
+{
+    let one_names = one.asked.as_slice();
+    let one_answers = one.answers.as_slice();
+    let other_names = other.asked.as_slice();
+    let other_answers = other.answers.as_slice();
+    let most = one_names.len().saturating_add(other_names.len());
+    let mut names = Vec::with_capacity(alloc, most)?;
+    let mut answers = Vec::with_capacity(alloc, most)?;
+    let (mut i, mut j) = (0, 0);
+    while i < one_names.len() && j < other_names.len() {
+        let (first, second) = (&one_names[i], &other_names[j]);
+        let order = first.compare(second);
+        names.push(lesser(order, first, second))?;
+        answers.push(joined(order, one_answers[i], other_answers[j]))?;
+        i += usize::from(order.is_le());
+        j += usize::from(order.is_ge());
+    }
+    names.extend_from_slice(left(one_names, i))?;
+    names.extend_from_slice(left(other_names, j))?;
+    answers.extend_from_slice(left(one_answers, i))?;
+    answers.extend_from_slice(left(other_answers, j))?;
+    Ok(Entries::of(names, answers))
+}
+
+/// Returns the items from the place `from` on.
+fn left<T>(items: &[T], from: usize) -> &[T]
+    ensures { result.now ≡ drop from items.now }
+{
+    items.get(from..).unwrap_or(&[])
+}
+
+/// Returns the lesser of two predicates, which compare as `order`.
+fn lesser<'a>(order: Ordering, one: &Parts<'a>, other: &Parts<'a>) -> Parts<'a>
+    ensures { result ≡ (if is_le order then one.now else other.now) }
+{
+    if order.is_le() { *one } else { *other }
+}
+
+/// Returns the answers to the lesser of two predicates, which compare as `order`: those of both,
+/// joined, if they are equal.
+fn joined(order: Ordering, one: Kleene64, other: Kleene64) -> Kleene64
+    ensures { AreNextAnswers order one other result }
+{
+    match order {
+        Ordering::Less => one,
+        Ordering::Greater => other,
+        Ordering::Equal => one.or(other),
     }
 }
 

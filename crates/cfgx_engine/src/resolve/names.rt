@@ -1,18 +1,16 @@
 //! The predicates that facts name, sorted, so that a binary search finds one.
 ghost use Rattle.std.specs.Prelude.{◌≡◌, ◌↔◌, ◌++◌, ◌∷◌, [], drop, take, map};
-ghost use Rattle.std.specs.Prelude.{IsTrue, OnOk};
+ghost use Rattle.std.specs.Prelude.{IfOk, IsTrue, OnOk};
 ghost use Rattle.std.specs.List.{Contains};
 ghost use Rattle.std.specs.List.Sorted.{IsPermutation, IsSorted};
 ghost use Rattle.cfg_expr.specs.Predicate.{question_of};
 
-use super::index::{Index, join};
+use super::index::{Entries, ends_with};
 use super::parts::Parts;
 use cfg_expr::Predicate;
 use cfg_expr::expr::Predicates;
 use cfg_expr::expr::logic::Kleene64;
-use cfg_expr::memory::SmallAllocator;
 use std::alloc::{AllocError, Allocator};
-use std::cmp::Ordering;
 use std::marker::Model;
 
 /// A predicate that facts name. `kind` and `number` are those of its `Parts`. In the buffer, its
@@ -27,7 +25,7 @@ struct Named {
 }
 
 impl Named {
-    ghost use Rattle.cfgx_engine.specs.internal.Names.{code, code_at, code_cmp};
+    ghost use Rattle.cfgx_engine.specs.internal.Names.{code, code_at};
 
     /// Returns the parts, whose texts lie in `buffer`.
     fn parts(self, buffer: &[u8]) -> Parts<'_>
@@ -40,29 +38,6 @@ impl Named {
             key: front(texts, self.key_len),
             value: front(behind(texts, self.key_len), self.value_len),
         }
-    }
-
-    /// Compares kind, number, key and value, in this order. The texts lie in `buffer`.
-    fn compare(self, buffer: &[u8], other: &Parts<'_>) -> Ordering
-        ensures { result ≡ code_cmp (code_at buffer.now self) (code other.now) }
-    {
-        // Most of those that a binary search meets have another kind, so nothing else is compared.
-        let kinds = self.kind.cmp(&other.kind);
-        if kinds.is_ne() {
-            return kinds;
-        }
-        let numbers = self.number.cmp(&other.number);
-        if numbers.is_ne() {
-            return numbers;
-        }
-        let texts = behind(buffer, self.start);
-        let key = front(texts, self.key_len);
-        let value = front(behind(texts, self.key_len), self.value_len);
-        let keys = key.cmp(&other.key);
-        if keys.is_ne() {
-            return keys;
-        }
-        value.cmp(&other.value)
     }
 }
 
@@ -103,7 +78,8 @@ impl<A: Allocator> Model for Names<A> {
 }
 
 impl<A: Allocator> Names<A> {
-    ghost use Rattle.cfgx_engine.specs.internal.Index.{Joins};
+    ghost use Rattle.cfgx_syntax.specs.Kleene.{lane};
+    ghost use Rattle.cfgx_engine.specs.internal.Index.{TellsEach};
     ghost use Rattle.cfgx_engine.specs.internal.Names.{code, code_cmp, code_of};
 
     /// Makes an empty list. Takes no memory.
@@ -161,8 +137,7 @@ impl<A: Allocator> Names<A> {
         ensures sorted { IsSorted code_cmp self.new }
     {
         let buffer = self.buffer.as_slice();
-        self.named
-            .sort_unstable_by(|one, other| one.compare(buffer, &other.parts(buffer)));
+        self.named.sort_unstable_by(|one, other| one.parts(buffer).compare(&other.parts(buffer)));
     }
 
     /// Whether the predicate with the parts `asked` was added. Those that were added have to be
@@ -185,25 +160,34 @@ impl<A: Allocator> Names<A> {
         let buffer = self.buffer.as_slice();
         let found = self
             .named
-            .binary_search_by(|named| named.compare(buffer, asked));
+            .binary_search_by(|named| named.parts(buffer).compare(asked));
         found.is_ok()
     }
 
-    /// Joins `answers` to those that `index` has for each of the predicates.
-    pub(super) fn join_to<'a>(
+    /// Returns an entry with `answers` for each predicate that was added. They have to be sorted.
+    pub(super) fn entries<'a>(
         &'a self,
-        index: &mut Index<'a, A>,
+        alloc: A,
         answers: Kleene64,
-    ) -> Result<(), AllocError>
+    ) -> Result<Entries<'a, A>, AllocError>
     where
-        A: SmallAllocator,
-        ensures { OnOk result (Joins self.now answers index.old index.new) }
+        A: Copy,
+        requires { IsSorted code_cmp self.now }
+        ensures { IfOk result (λ entries. TellsEach self.now (λ i. lane i answers) entries) }
     {
         let buffer = self.buffer.as_slice();
         let all = self.named.as_slice();
+        let mut names = Vec::with_capacity(alloc, all.len())?;
+        let mut answered = Vec::with_capacity(alloc, all.len())?;
         for named in all {
-            join(index, &named.parts(buffer), answers)?;
+            let asked = named.parts(buffer);
+            // A predicate that several facts name stands more than once.
+            if ends_with(names.as_slice(), &asked) {
+                continue;
+            }
+            names.push(asked)?;
+            answered.push(answers)?;
         }
-        Ok(())
+        Ok(Entries::of(names, answered))
     }
 }

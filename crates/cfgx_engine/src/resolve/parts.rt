@@ -1,8 +1,5 @@
 //! Predicates in parts, by which facts name them.
-ghost use Rattle.std.specs.Prelude.{◌≡◌, fold};
-ghost use Rattle.std.specs.Cmp.Lexicographic.{bytes_decides, pointwise_decides};
-ghost use Rattle.std.specs.Cmp.Rules.{comparing};
-ghost use Rattle.std.proofs.Common.{ap, rules};
+ghost use Rattle.std.specs.Prelude.{◌≡◌};
 ghost use Rattle.cfg_expr.specs.Predicate.{question_of, target_of};
 ghost use Rattle.cfgx_grammar.specs.Question.{Question};
 ghost use Rattle.cfgx_engine.specs.internal.Names.{key_of, number_of, text_of};
@@ -10,8 +7,7 @@ ghost use Rattle.cfgx_engine.specs.internal.Names.{key_of, number_of, text_of};
 use cfg_expr::Predicate;
 use cfg_expr::expr::TargetPredicate;
 use cfg_expr::targets::{Endian, HasAtomic};
-use cfgx_parser::nodes::InnerTarget;
-use std::hash::{Hash, Hasher};
+use std::cmp::Ordering;
 
 /// A predicate in parts. Different predicates have different parts.
 #[derive(Clone, Copy)]
@@ -27,7 +23,7 @@ pub(super) struct Parts<'a> {
 }
 
 impl<'a> Parts<'a> {
-    ghost use Rattle.cfgx_engine.specs.internal.Names.{code, code_of};
+    ghost use Rattle.cfgx_engine.specs.internal.Names.{code, code_cmp, code_of};
 
     /// Returns the parts of a predicate.
     pub(super) fn of(predicate: &'a Predicate<'_>) -> Parts<'a>
@@ -41,44 +37,33 @@ impl<'a> Parts<'a> {
             value: text.as_bytes(),
         }
     }
-}
 
-impl PartialEq for Parts<'_> {
-    ghost use Rattle.cfgx_engine.specs.internal.Names.{parts_eq};
-
-    ghost eq = { parts_eq };
-
-    ghost laws = { Prim.search (comparing, rules) };
-
-    fn eq(&self, other: &Self) -> bool
-        ensures { result ≡ parts_eq self.now other.now }
+    /// Compares kind, number, the lengths of key and value, key and value, in this order. So bytes
+    /// are compared only if all numbers are equal.
+    pub(super) fn compare(&self, other: &Parts<'_>) -> Ordering
+        ensures { result ≡ code_cmp (code self.now) (code other.now) }
     {
-        self.kind == other.kind
-            && self.number == other.number
-            && self.key == other.key
-            && self.value == other.value
-    }
-}
-
-impl Eq for Parts<'_> {
-    ghost laws = { Prim.search (comparing, rules) };
-}
-
-impl Hash for Parts<'_> {
-    ghost use Rattle.cfgx_engine.specs.internal.Names.{code, hashed};
-
-    ghost hash_input = { λ parts. hashed (code parts) };
-
-    ghost respects_eq = { λ one other same.
-        ap hashed ((pointwise_decides bytes_decides (code one) (code other)).0 same) };
-
-    fn hash<H: Hasher>(&self, state: &mut H)
-        ensures { state.new ≡ fold H.write state.old (hashed (code self.now)) }
-    {
-        state.write_u32(self.kind);
-        state.write_u16(self.number);
-        state.write(self.key);
-        state.write(self.value);
+        let kinds = self.kind.cmp(&other.kind);
+        if kinds.is_ne() {
+            return kinds;
+        }
+        let numbers = self.number.cmp(&other.number);
+        if numbers.is_ne() {
+            return numbers;
+        }
+        let key_lens = self.key.len().cmp(&other.key.len());
+        if key_lens.is_ne() {
+            return key_lens;
+        }
+        let value_lens = self.value.len().cmp(&other.value.len());
+        if value_lens.is_ne() {
+            return value_lens;
+        }
+        let keys = self.key.cmp(&other.key);
+        if keys.is_ne() {
+            return keys;
+        }
+        self.value.cmp(&other.value)
     }
 }
 
@@ -113,12 +98,18 @@ fn target_value<'a>(target: &'a TargetPredicate<'_>) -> (u16, &'a str)
     ensures number { result.0 ≡ number_of (Question.target (target_of target.now)) }
     ensures text { result.1.now ≡ text_of (Question.target (target_of target.now)) }
 {
-    let (asked, text) = target.parts();
-    match asked {
-        InnerTarget::Text(_) | InnerTarget::Endian(Endian::big) => (0, text),
-        InnerTarget::Endian(Endian::little) => (1, text),
-        InnerTarget::HasAtomic(HasAtomic::IntegerSize(bits)) => (bits, text),
-        InnerTarget::HasAtomic(HasAtomic::Pointer) => (0, "ptr"),
-        InnerTarget::PointerWidth(bits) => (u16::from(bits), text),
+    match target {
+        TargetPredicate::Abi(abi) => (0, abi.as_str()),
+        TargetPredicate::Arch(arch) => (0, arch.as_str()),
+        TargetPredicate::Endian(Endian::big) => (0, ""),
+        TargetPredicate::Endian(Endian::little) => (1, ""),
+        TargetPredicate::Env(env) => (0, env.as_str()),
+        TargetPredicate::Family(family) => (0, family.as_str()),
+        TargetPredicate::HasAtomic(HasAtomic::IntegerSize(bits)) => (*bits, ""),
+        TargetPredicate::HasAtomic(HasAtomic::Pointer) => (0, "ptr"),
+        TargetPredicate::Os(os) => (0, os.as_str()),
+        TargetPredicate::Panic(panic) => (0, panic.as_str()),
+        TargetPredicate::PointerWidth(bits) => (u16::from(*bits), ""),
+        TargetPredicate::Vendor(vendor) => (0, vendor.as_str()),
     }
 }

@@ -29,14 +29,14 @@ returns-in_err-condition g c =
     let p = err_from_is_err_and c.from_residual.result c.from_residual.ensures.1 in
     let Valued = HasValue c.args.text.now (texts c.args.flags.now) in
     rw (p.1, p.2) (IfSome_then _ {Q = λ fault. Valued (Err fault)}
-    (Fails-parse {A = g.row.A.Denot} c.args.text.now _ c.in_err-condition.ensures)
+    (Fails-parse {A = g.row.A.Denot} c.args.text.now _ c.in_err-condition.ensures.answers)
     (λ fault reads. (Err fault, first_fails ParsesAs _ _ fault reads, refl)))
 
 pub returns-in_err-facts : goal.returns-in_err-facts
 returns-in_err-facts g c =
     let p = err_from_is_err_and c.from_residual-in_err-facts.result
     c.from_residual-in_err-facts.ensures.1 in
-    let one = c.in_ok-condition.ensures.2 in
+    let one = c.in_ok-condition.ensures.answers.2 in
     let flags = texts c.args.flags.now in
     let Valued = HasValue c.args.text.now flags in
     rw (p.1, p.2) (IfSome_then _ {Q = λ fault. Valued (Err fault)}
@@ -45,7 +45,7 @@ returns-in_err-facts g c =
 
 pub returns : goal.returns
 returns g c =
-    let evaluates = rw c.in_ok-condition.ensures.0 at c.in_ok-eval.ensures.value in
+    let evaluates = rw c.in_ok-condition.ensures.answers.0 at c.in_ok-eval.ensures.value in
     let are = c.in_ok-facts.ensures in
     let flags = texts c.args.flags.now in
     let trees = trees_of flags are.each in

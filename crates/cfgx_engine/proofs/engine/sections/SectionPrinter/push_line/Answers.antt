@@ -6,7 +6,7 @@ use Rattle.cfgx_engine.proofs.engine.sections.SectionPrinter.push_line.Goals as 
 pub returns-in_ok-push_section-in-Ok-clause-ok
     : goal.returns-in_ok-push_section-in-Ok-clause-ok
 returns-in_ok-push_section-in-Ok-clause-ok g c =
-    let read = rw c.in-Ok.ensures.0 at c.in_ok-push_section-in-Ok.ensures.adds in
+    let read = rw c.in-Ok.ensures.answers.0 at c.in_ok-push_section-in-Ok.ensures.adds in
     rw c.in-Section.is (
       _,
       (Ok read.0.tree, read.0.reads, refl),
@@ -15,7 +15,8 @@ returns-in_ok-push_section-in-Ok-clause-ok g c =
 
 pub returns-in_ok-message-in-Err-clause-err : goal.returns-in_ok-message-in-Err-clause-err
 returns-in_ok-message-in-Err-clause-err g c =
-    let fails = Fails-parse {A = g.row.A.Denot} c.in-Section.condition.now _ c.in-Err.ensures in
+    let fails = Fails-parse {A = g.row.A.Denot} c.in-Section.condition.now _
+    c.in-Err.ensures.answers in
     let one = shown_fault (failure_of {A = g.row.A.Denot} c.in-Err.failure) fails
     c.in_ok-message-in-Err.ensures in
     rw c.in-Section.is (Err one.0, one.1, ap Err one.2)
