@@ -1,6 +1,6 @@
-/* Evaluates the steps of a condition in two ways. `cfgx_apply` tells its value if no answer is
- * known. A loop over the steps, with costs as values, tells how many predicates at least have to be
- * true so that the condition is true.
+/* Reads the steps of a condition in three ways. A function prints the condition's tree as it was
+ * written. `cfgx_apply` tells its value if no answer is known. A loop over the steps, with costs as
+ * values, tells how many predicates at least have to be true so that the condition is true.
  *
  * usage: apply TEXT */
 #include "support.h"
@@ -23,6 +23,27 @@ static size_t sum(size_t a, size_t b)
 static size_t least(size_t a, size_t b)
 {
     return a < b ? a : b;
+}
+
+/* Prints the condition whose steps begin with the one at `i`, and returns the place behind its
+ * steps. Calls itself once for each level of nesting. */
+static size_t print_tree(const char *text, const struct cfgx_step *steps,
+                         const struct cfgx_predicate *predicates, size_t i)
+{
+    static const char *const words[] = {"false", "true", "", "not(", "all(", "any("};
+    const struct cfgx_step *step = &steps[i++];
+    fputs(words[step->kind], stdout);
+    if (step->kind == CFGX_STEP_ASK) {
+        const struct cfgx_predicate *asked = &predicates[step->number];
+        fwrite(text + asked->start, 1, asked->end - asked->start, stdout);
+    } else if (step->kind >= CFGX_STEP_NOT) {
+        for (size_t member = 0; member < step->number; member++) {
+            fputs(member > 0 ? ", " : "", stdout);
+            i = print_tree(text, steps, predicates, i);
+        }
+        putchar(')');
+    }
+    return i;
 }
 
 /* Returns the value of an `all` or an `any` of these values. */
@@ -51,7 +72,7 @@ static struct cost pushed(const struct cfgx_step *step, const struct cost *poppe
     case CFGX_STEP_NOT:
         return (struct cost){popped->if_false, popped->if_true};
     default:
-        return joined(step->kind, popped, step->count);
+        return joined(step->kind, popped, step->number);
     }
 }
 
@@ -59,8 +80,8 @@ static struct cost pushed(const struct cfgx_step *step, const struct cost *poppe
 static struct cost evaluate(const struct cfgx_step *steps, size_t count, struct cost *stack)
 {
     size_t height = 0;
-    for (size_t i = 0; i < count; i++) {
-        height -= steps[i].count;
+    for (size_t i = count; i-- > 0;) {
+        height -= steps[i].kind >= CFGX_STEP_NOT ? steps[i].number : 0;
         stack[height] = pushed(&steps[i], &stack[height]);
         height++;
     }
@@ -105,6 +126,8 @@ int main(int count, char **word)
                               &asked, NULL);
     }
     if (status == CFGX_STATUS_DONE) {
+        print_tree(word[1], steps, predicates, 0);
+        putchar('\n');
         status = print_values(steps, step_count, asked);
     }
     free(predicates);

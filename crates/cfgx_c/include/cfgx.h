@@ -1,8 +1,8 @@
 /* The engine of cfgx for C and C++. A condition is a text such as `all(unix, feature = "x")`, whose
  * predicates are `unix` and `feature = "x"`. The calls check such texts, list their tokens and
- * predicates, and compute their values. In the repository of cfgx, docs/RULES.md has the rules of
- * the language, and docs/C.md says how to link the library and what is proved of it. This header
- * needs C99 or C++11.
+ * predicates, and compute their values. The manual page cfgx(1) and docs/RULES.md in the repository
+ * of cfgx have the rules of the language, and docs/C.md says how to link the library and what is
+ * proved of it. This header needs C99 or C++11.
  *
  * Texts are UTF-8. Lengths, ends and spans count bytes. No byte is a terminator, so a text may
  * contain zero bytes. A condition has them only in its values. White space of Unicode, a line feed
@@ -32,15 +32,16 @@
  * has room for most conditions, and call again for others. A condition has no more steps than
  * bytes, and a step for each predicate.
  *
- * A call always writes `*value`, `*needed` and `*fault`. Unless it says otherwise, `*value` becomes
- * CFGX_VALUE_UNKNOWN, `*needed` becomes 0, and each member of `*fault` becomes 0. If the status is
- * CFGX_STATUS_FAULTY, CFGX_STATUS_NOT_UTF8 or CFGX_STATUS_FAULTY_FACT, a call with a `fault` writes
- * to it which text or fact this is about, and what is wrong with it.
+ * A call always writes `*value`, `*needed`, `*offset` and `*fault`. Unless it says otherwise,
+ * `*value` becomes CFGX_VALUE_UNKNOWN, `*needed` and `*offset` become 0, and each member of
+ * `*fault` becomes 0. If the status is CFGX_STATUS_FAULTY, CFGX_STATUS_NOT_UTF8 or
+ * CFGX_STATUS_FAULTY_FACT, a call with a `fault` writes to it which text or fact this is about, and
+ * what is wrong with it.
  *
  * If several statuses apply, a call returns the first of these: CFGX_STATUS_BAD_ENDS;
  * CFGX_STATUS_TOO_LARGE; CFGX_STATUS_FAULTY_FACT, for a fact that is not UTF-8, and then for one
- * that is faulty; CFGX_STATUS_NOT_UTF8, for any text; CFGX_STATUS_FAULTY; CFGX_STATUS_NO_VALUE;
- * CFGX_STATUS_MISCOUNTED. The order of `cfgx_run` is: CFGX_STATUS_BAD_ENDS; CFGX_STATUS_NOT_UTF8,
+ * that is faulty; CFGX_STATUS_NOT_UTF8, for any text; CFGX_STATUS_FAULTY; CFGX_STATUS_MISCOUNTED;
+ * CFGX_STATUS_NO_VALUE. The order of `cfgx_run` is: CFGX_STATUS_BAD_ENDS; CFGX_STATUS_NOT_UTF8,
  * for any word; CFGX_STATUS_WRONG_USE; CFGX_STATUS_FAULTY. A call may return
  * CFGX_STATUS_OUT_OF_MEMORY in place of every status but CFGX_STATUS_BAD_ENDS and
  * CFGX_STATUS_TOO_LARGE. But for that, the same arguments always have the same status.
@@ -73,8 +74,8 @@ extern "C" {
 
 /* The version of the language of conditions, and that of these calls. */
 #define CFGX_VERSION_LANGUAGE 2
-#define CFGX_VERSION_MAJOR 2
-#define CFGX_VERSION_MINOR 1
+#define CFGX_VERSION_MAJOR 3
+#define CFGX_VERSION_MINOR 0
 #define CFGX_VERSION \
     (CFGX_VERSION_LANGUAGE * 1000000 + CFGX_VERSION_MAJOR * 1000 + CFGX_VERSION_MINOR)
 
@@ -92,10 +93,12 @@ uint32_t cfgx_version(void);
 #define CFGX_STATUS_WRONG_USE 2     /* cfgx_run: wrong words, or a triple that is not built in */
 #define CFGX_STATUS_OUT_OF_MEMORY 3 /* memory was refused */
 #define CFGX_STATUS_NOT_UTF8 4      /* a text or a word is not UTF-8 */
-#define CFGX_STATUS_MISCOUNTED 5    /* the numbers of answers and predicates differ */
+#define CFGX_STATUS_MISCOUNTED 5    /* there are more or fewer answers than predicates; of steps,
+                                     * than steps that ask */
 #define CFGX_STATUS_BAD_ENDS 6      /* ends decrease, or the last is not the number of bytes; for
                                      * the ends of targets, of facts */
-#define CFGX_STATUS_NO_VALUE 7      /* the steps have no value over any answers */
+#define CFGX_STATUS_NO_VALUE 7      /* the steps are not those of one tree, or one asks for an
+                                     * answer that is not there */
 #define CFGX_STATUS_TOO_LARGE 8     /* the number of values does not fit in a size_t */
 #define CFGX_STATUS_FAULTY_FACT 9   /* a fact is faulty or not UTF-8 */
 
@@ -150,11 +153,12 @@ struct cfgx_fault {
      * of a fact is one byte more. It is 0 for bytes that are not UTF-8 */
     size_t offset;
     /* the bytes at fault, from `start` up to but not including `end` in the stripped text, so from
-     * `offset + start` up to but not including `offset + end` in the text or the fact. `start` is
-     * `end` if no byte is at fault, as in an empty text. If a parenthesis or a quote is never
-     * closed, all that follows it is at fault too. Where no token can start, one byte is at fault,
-     * also of a longer character. If the text or the fact is not UTF-8, this is the byte with which
-     * the first wrong character begins */
+     * `offset + start` up to but not including `offset + end` in the text or the fact. The former
+     * is at most the latter, and this at most the length of the text or the fact. `start` is `end`
+     * if no byte is at fault, as in an empty text. If a parenthesis or a quote is never closed, all
+     * that follows it is at fault too. Where no token can start, one byte is at fault, also of a
+     * longer character. If the text or the fact is not UTF-8, this is the byte with which the first
+     * wrong character begins */
     size_t start;
     size_t end;
     /* the number of members of the `not`, for CFGX_REASON_INVALID_NOT; 0 for every other reason */
@@ -208,14 +212,15 @@ uint32_t cfgx_explain(const char *text, size_t text_length,
 #define CFGX_ATOMIC_POINTER 65536
 
 /* A predicate of a condition. Spans are those in the text as it was passed, from the start up to
- * but not including the end. */
+ * but not including the end. Each start is at most its end, and each end at most the length of the
+ * text. */
 struct cfgx_predicate {
     /* one of CFGX_PREDICATE_.. */
     uint32_t kind;
-    /* CFGX_PREDICATE_POINTER_WIDTH: the number of bits
-     * CFGX_PREDICATE_HAS_ATOMIC: the number of bits, or CFGX_ATOMIC_POINTER
-     * CFGX_PREDICATE_ENDIAN: the number of a byte order
-     * every other kind: 0 */
+    /* - CFGX_PREDICATE_POINTER_WIDTH: the number of bits
+     * - CFGX_PREDICATE_HAS_ATOMIC: the number of bits, or CFGX_ATOMIC_POINTER
+     * - CFGX_PREDICATE_ENDIAN: the number of a byte order
+     * - every other kind: 0 */
     uint32_t number;
     /* the span of the whole predicate: from the start of its key to the end of its key, or to the
      * end of the closing quote if it has a value */
@@ -290,26 +295,35 @@ uint32_t cfgx_answers(const char *text, size_t text_length,
 /* The kinds of steps. */
 #define CFGX_STEP_FALSE 0 /* pushes false */
 #define CFGX_STEP_TRUE 1  /* pushes true */
-#define CFGX_STEP_ASK 2   /* pushes the next answer */
+#define CFGX_STEP_ASK 2   /* pushes the answer with the number `number` */
 #define CFGX_STEP_NOT 3   /* pops a value, and pushes its negation */
-#define CFGX_STEP_ALL 4   /* pops `count` values, and pushes whether all are true */
-#define CFGX_STEP_ANY 5   /* pops `count` values, and pushes whether any is true */
+#define CFGX_STEP_ALL 4   /* pops `number` values, and pushes whether all are true */
+#define CFGX_STEP_ANY 5   /* pops `number` values, and pushes whether any is true */
 
-/* A step of the evaluation of a condition with a stack. The padding between its members may hold
- * anything, so compare and store the members. */
+/* A step of the evaluation of a condition, which is a node of its tree. Steps stand as the nodes
+ * stand in the text, each function in front of its members. They are read from the last to the
+ * first, with a stack, and each one does what its kind says. The value that was pushed last is
+ * popped first, so the value of the first member is on top. CFGX_STEP_ALL: acc = true; for each
+ * popped value v, acc = acc and v; acc is pushed. CFGX_STEP_ANY: the same with false and or. At the
+ * end the stack has one value, which is that of the condition. It never has more values than there
+ * are steps.
+ *
+ * `all(a, any(b), c)` asks b, a and c, and has the steps ALL 3, ASK 1, ANY 1, ASK 0 and ASK 2. The
+ * padding between the members may hold anything, so compare and store the members. */
 struct cfgx_step {
     /* one of CFGX_STEP_.. */
     uint32_t kind;
-    /* the number of values that the step pops: 0 for the first three kinds, and 1 for `not` */
-    size_t count;
+    /* CFGX_STEP_ASK: the number of the predicate, counted from 0 in the order of `cfgx_predicates`
+     * CFGX_STEP_ALL, CFGX_STEP_ANY: the number of members
+     * CFGX_STEP_NOT: 1
+     * CFGX_STEP_FALSE, CFGX_STEP_TRUE: 0 */
+    size_t number;
 };
 
 /* Compiles a condition to its steps and its predicates. A program can keep both, and evaluate the
- * steps in any language, with values of any logic. It takes one step after another, with a stack,
- * from which the value that was pushed last is popped first. The answers are in the order of
- * `predicates`. `all`: acc = true; for each popped value v, acc = acc and v; acc is pushed. `any`:
- * the same with false and or. At the end the stack has one value, which is that of the condition.
- * The stack never has more values than there are steps, and there are no more steps than bytes.
+ * steps in any language, with values of any logic in which members may be joined in any order. It
+ * can also build the condition's tree from them. The predicates are in the order of
+ * `cfgx_predicates`. There are no more steps than bytes. To write the steps takes no memory.
  *
  * Both buffers are filled, or neither. Returns CFGX_STATUS_DONE, CFGX_STATUS_FAULTY,
  * CFGX_STATUS_NOT_UTF8 or CFGX_STATUS_OUT_OF_MEMORY. */
@@ -319,13 +333,16 @@ uint32_t cfgx_compile(const char *text, size_t text_length,
                       struct cfgx_predicate *predicates, size_t predicate_room,
                       size_t *predicates_needed, struct cfgx_fault *fault);
 
-/* Computes the value of steps over answers, with a stack as `cfgx_compile` describes it. Any steps
- * may be passed, such as those of a damaged file. Two answers are independent, as in `cfgx_value`.
- * Returns CFGX_STATUS_DONE, and writes the value to `*value`. Returns CFGX_STATUS_NO_VALUE if a
- * step pops more values than there are, not exactly one value is left at the end, a kind is
- * unknown, or a count is not what `cfgx_step` says. Returns CFGX_STATUS_MISCOUNTED if the steps
- * have a value over more or fewer answers. Otherwise returns CFGX_STATUS_OUT_OF_MEMORY. Up to 33
- * steps and 33 answers need no memory. */
+/* Computes the value of steps over answers, as `cfgx_step` describes it. Any steps may be passed,
+ * such as those of a damaged file. Several steps may ask for the same answer. Two answers are
+ * independent, as in `cfgx_value`.
+ *
+ * Returns CFGX_STATUS_DONE, and writes the value to `*value`. Returns CFGX_STATUS_MISCOUNTED if
+ * there are more or fewer answers than steps of the kind CFGX_STEP_ASK. Returns
+ * CFGX_STATUS_NO_VALUE if the steps are not those of one tree, or a step asks for an answer that is
+ * not there: a kind is unknown, a number is none that its kind can have, a function has too few
+ * members behind it, there are no steps, or not exactly one value is left. Otherwise returns
+ * CFGX_STATUS_OUT_OF_MEMORY. Up to 33 steps and 33 answers need no memory. */
 CFGX_USE_RESULT
 uint32_t cfgx_apply(const struct cfgx_step *steps, size_t step_count,
                     const uint8_t *answers, size_t answer_count, uint8_t *value);
@@ -376,14 +393,18 @@ struct cfgx_token {
 
 /* Lists the tokens of the stripped text, one after another. The text need not be a condition: most
  * texts that `cfgx_check` refuses have all their tokens here, and an empty text has none. White
- * space stands between tokens and belongs to none. Writes to `*offset` where the stripped text
- * begins: at 4 if the text is in cfg( ), else at 0.
+ * space stands between tokens and belongs to none. With each status but CFGX_STATUS_NOT_UTF8,
+ * CFGX_STATUS_OUT_OF_MEMORY too, writes to `*offset` where the stripped text begins: at 4 if the
+ * text is in cfg( ), else at 0. With CFGX_STATUS_NOT_UTF8 `*offset` becomes 0.
  *
  * Returns CFGX_STATUS_DONE if nothing but white space stands behind the last token. Returns
  * CFGX_STATUS_FAULTY at the first character with which no token can start, or at a quote that is
  * never closed. Then the result is the tokens before it, and `fault` tells this fault, before which
- * `cfgx_check` may find another one. Otherwise returns CFGX_STATUS_NOT_UTF8, with which `*offset`
- * is 0, or CFGX_STATUS_OUT_OF_MEMORY. */
+ * `cfgx_check` may find another one. Otherwise returns CFGX_STATUS_NOT_UTF8 or
+ * CFGX_STATUS_OUT_OF_MEMORY.
+ *
+ * A first pass over the text counts the tokens, and a second one writes them. So a text without
+ * such a fault takes no memory. */
 CFGX_USE_RESULT
 uint32_t cfgx_tokens(const char *text, size_t text_length,
                      struct cfgx_token *tokens, size_t room, size_t *needed, size_t *offset,
@@ -403,57 +424,58 @@ uint32_t cfgx_run(const char *words, size_t words_length,
                   const char *input, size_t input_length,
                   char *output, size_t room, size_t *needed);
 
-/* What follows allows a null pointer where its count is 0, and as a `fault`. The name of each call
- * but `cfgx_version` becomes that of a static function here. It passes on what it is passed, with a
- * pointer to some item in place of such a null pointer. A null pointer with another count stays
- * null. In C, a function of yours that is inline and not static cannot call a static function: make
- * it `static inline`. */
+/* The functions at the end of the header allow a null pointer where its count is 0, and as a
+ * `fault`. The name of each call but `cfgx_version` becomes that of one of them, which is static.
+ * It passes on what it is passed, with a pointer to some item in place of such a null pointer. A
+ * null pointer with another count stays null. In C, a function of yours that is inline and not
+ * static cannot call a static function: make it `static inline`. The names are macros, which rename
+ * a member of a struct or a class too, so give no member the name of a call. */
 
 static inline const char *cfgx_given_text(const char *text, size_t count) {
     static const char none = 0;
-    return text == NULL && count == 0 ? &none : text;
+    return text || count ? text : &none;
 }
 
 static inline const size_t *cfgx_given_ends(const size_t *ends, size_t count) {
     static const size_t none = 0;
-    return ends == NULL && count == 0 ? &none : ends;
+    return ends || count ? ends : &none;
 }
 
 static inline const uint8_t *cfgx_given_answers(const uint8_t *answers, size_t count) {
     static const uint8_t none = 0;
-    return answers == NULL && count == 0 ? &none : answers;
+    return answers || count ? answers : &none;
 }
 
 static inline const struct cfgx_step *cfgx_given_steps(const struct cfgx_step *steps,
                                                        size_t count) {
     static const struct cfgx_step none = {0, 0};
-    return steps == NULL && count == 0 ? &none : steps;
+    return steps || count ? steps : &none;
 }
 
 static inline char *cfgx_room_for_text(char *text, size_t count) {
     static char none;
-    return text == NULL && count == 0 ? &none : text;
+    return text || count ? text : &none;
 }
 
 static inline uint8_t *cfgx_room_for_values(uint8_t *values, size_t count) {
     static uint8_t none;
-    return values == NULL && count == 0 ? &none : values;
+    return values || count ? values : &none;
 }
 
 static inline struct cfgx_predicate *cfgx_room_for_predicates(struct cfgx_predicate *predicates,
                                                               size_t count) {
     static struct cfgx_predicate none;
-    return predicates == NULL && count == 0 ? &none : predicates;
+    return predicates || count ? predicates : &none;
 }
 
 static inline struct cfgx_step *cfgx_room_for_steps(struct cfgx_step *steps, size_t count) {
     static struct cfgx_step none;
-    return steps == NULL && count == 0 ? &none : steps;
+    return steps || count ? steps : &none;
 }
 
 static inline struct cfgx_token *cfgx_room_for_tokens(struct cfgx_token *tokens, size_t count) {
     static struct cfgx_token none;
-    return tokens == NULL && count == 0 ? &none : tokens;
+    return tokens || count ? tokens : &none;
 }
 
 CFGX_USE_RESULT
@@ -461,7 +483,7 @@ static inline uint32_t cfgx_check_or_none(const char *text, size_t text_length,
                                           struct cfgx_fault *fault) {
     struct cfgx_fault untold;
     return cfgx_check(cfgx_given_text(text, text_length), text_length,
-                      fault == NULL ? &untold : fault);
+                      fault ? fault : &untold);
 }
 
 CFGX_USE_RESULT
@@ -471,7 +493,7 @@ static inline uint32_t cfgx_explain_or_none(const char *text, size_t text_length
     struct cfgx_fault untold;
     return cfgx_explain(cfgx_given_text(text, text_length), text_length,
                         cfgx_room_for_text(message, room), room, needed,
-                        fault == NULL ? &untold : fault);
+                        fault ? fault : &untold);
 }
 
 CFGX_USE_RESULT
@@ -481,7 +503,7 @@ static inline uint32_t cfgx_predicates_or_none(const char *text, size_t text_len
     struct cfgx_fault untold;
     return cfgx_predicates(cfgx_given_text(text, text_length), text_length,
                            cfgx_room_for_predicates(predicates, room), room, needed,
-                           fault == NULL ? &untold : fault);
+                           fault ? fault : &untold);
 }
 
 CFGX_USE_RESULT
@@ -491,7 +513,7 @@ static inline uint32_t cfgx_value_or_none(const char *text, size_t text_length,
     struct cfgx_fault untold;
     return cfgx_value(cfgx_given_text(text, text_length), text_length,
                       cfgx_given_answers(answers, answer_count), answer_count, value,
-                      fault == NULL ? &untold : fault);
+                      fault ? fault : &untold);
 }
 
 CFGX_USE_RESULT
@@ -503,7 +525,7 @@ static inline uint32_t cfgx_decide_or_none(const char *text, size_t text_length,
     return cfgx_decide(cfgx_given_text(text, text_length), text_length,
                        cfgx_given_answers(answers, answer_count), answer_count,
                        cfgx_room_for_values(fillings, room), room, needed, value,
-                       fault == NULL ? &untold : fault);
+                       fault ? fault : &untold);
 }
 
 CFGX_USE_RESULT
@@ -517,7 +539,7 @@ static inline uint32_t cfgx_answers_or_none(const char *text, size_t text_length
                         cfgx_given_text(facts, facts_length), facts_length,
                         cfgx_given_ends(fact_ends, fact_count), fact_count, otherwise,
                         cfgx_room_for_values(answers, room), room, needed,
-                        fault == NULL ? &untold : fault);
+                        fault ? fault : &untold);
 }
 
 CFGX_USE_RESULT
@@ -530,7 +552,7 @@ static inline uint32_t cfgx_compile_or_none(const char *text, size_t text_length
     return cfgx_compile(cfgx_given_text(text, text_length), text_length,
                         cfgx_room_for_steps(steps, step_room), step_room, steps_needed,
                         cfgx_room_for_predicates(predicates, predicate_room), predicate_room,
-                        predicates_needed, fault == NULL ? &untold : fault);
+                        predicates_needed, fault ? fault : &untold);
 }
 
 CFGX_USE_RESULT
@@ -556,7 +578,7 @@ static inline uint32_t cfgx_audit_or_none(const char *texts, size_t texts_length
                       cfgx_given_ends(fact_ends, fact_count), fact_count,
                       cfgx_given_ends(target_ends, target_count), target_count, otherwise,
                       cfgx_room_for_values(values, room), room, needed,
-                      fault == NULL ? &untold : fault);
+                      fault ? fault : &untold);
 }
 
 CFGX_USE_RESULT
@@ -566,7 +588,7 @@ static inline uint32_t cfgx_tokens_or_none(const char *text, size_t text_length,
     struct cfgx_fault untold;
     return cfgx_tokens(cfgx_given_text(text, text_length), text_length,
                        cfgx_room_for_tokens(tokens, room), room, needed, offset,
-                       fault == NULL ? &untold : fault);
+                       fault ? fault : &untold);
 }
 
 CFGX_USE_RESULT

@@ -8,15 +8,15 @@ use Rattle.cfgx_engine.specs.Facts.{FactTexts, IsAnswer, NameAlike, texts_of}
 use Rattle.cfgx_engine.specs.declared.resolve.facts.Otherwise.{Otherwise}
 use Rattle.cfgx_engine.proofs.{AuditLemmas.AllZip-weaker, FactLemmas.IsAnswer-alike}
 use Rattle.cfgx_engine.proofs.ValueLemmas.{AreValues-alike}
-use Rattle.cfgx_c.specs.{Answers.AnswersBy, Audit.ValuesBy}
+use Rattle.cfgx_c.specs.{Answers.AnswersOfFacts, Audit.ValuesBy}
 
 -- the answers of the facts that were read are those of the facts
-pub AnswersBy-read : (text condition : List ℕ) (facts : List (List ℕ)) (read : FactTexts)
+pub AnswersOfFacts-read : (text condition : List ℕ) (facts : List (List ℕ)) (read : FactTexts)
     (otherwise : Otherwise) (answers : List (Option Bool)) → condition ≡ strip text
     → NameAlike read (texts_of facts)
     → (one : HasOneTree condition) × AllZip (IsAnswer read otherwise) (asked one.tree) answers
-    → AnswersBy text facts otherwise answers
-AnswersBy-read text condition facts read otherwise answers is alike given =
+    → AnswersOfFacts text facts otherwise answers
+AnswersOfFacts-read text condition facts read otherwise answers is alike given =
     let given = rw is at given in
     record {
       one = given.0;

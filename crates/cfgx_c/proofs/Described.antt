@@ -11,7 +11,7 @@ use Rattle.cfgx_grammar.specs.Question.{Question}
 use Rattle.cfgx_parser.specs.nodes.Located.{at}
 use Rattle.cfgx_parser.specs.Kinds.{kind_number}
 use Rattle.cfgx_parser.specs.declared.nodes.Span.{Span}
-use Rattle.cfg_expr.specs.Located.{AreLocated, CanBeCut, Locates}
+use Rattle.cfg_expr.specs.Located.{AreLocated, IsSpanIfAny, Locates}
 use Rattle.cfg_expr.specs.declared.expr.located.LocatedPredicate.{LocatedPredicate}
 use Rattle.cfgx_c.specs.Predicates.{Describes, IsSpanOf, ListsPredicates, c_predicate}
 use Rattle.cfgx_c.specs.Predicates.{moved_or_none}
@@ -43,7 +43,7 @@ part_of_stripped text start end inside =
     (omega (arith, inside, ap length is))
 
 module _ (text : List ℕ) where
-  moved-span : (span : Option Span) → CanBeCut (strip text) span
+  moved-span : (span : Option Span) → IsSpanIfAny (strip text) span
       → let there = moved_or_none (strip_offset text) span in
       IsSpanOf text (option_map (at (strip text)) span) there.start there.end
   moved-span None cut = (refl, refl)
@@ -61,6 +61,10 @@ Describes-moved text question p is = record {
   number = is.number;
   key = rw (← is.key.are) (moved-span text p.key is.key.cut);
   value = rw (← is.value.are) (moved-span text p.value is.value.cut);
+  lies = let (stands, within) = strip-stands text in record {
+    ordered = omega (arith, is.lies.ordered);
+    inside = omega (arith, is.lies.inside, within);
+  };
 }
 
 described_each : (text : List ℕ) (questions : List Question) (located : List LocatedPredicate)

@@ -1,8 +1,11 @@
 pub mod AnswerLemmas
 pub mod BufferLemmas
+pub mod CallLemmas
 pub mod CSteps
+pub mod DecideLemmas
 pub mod Described
 pub mod EndsLemmas
 pub mod RefusalLemmas
+pub mod SpanLemmas
 pub mod TokenLemmas
 pub mod Utf8Lemmas

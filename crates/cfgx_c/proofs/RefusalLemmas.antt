@@ -15,7 +15,6 @@ use Rattle.cfgx_syntax.specs.declared.error.Failure.{Failure}
 use Rattle.cfgx_syntax.specs.declared.error.Failure.TheVariants as failure
 use Rattle.cfgx_syntax.specs.declared.error.ParseError.{ParseError}
 use Rattle.cfgx_grammar.specs.Answer.{Answers, HasOneTree}
-use Rattle.cfgx_grammar.proofs.ListLemmas.{slice_get-append_seam}
 use Rattle.cfgx_engine.specs.Audits.{IsFirstFault}
 use Rattle.cfgx_engine.specs.Facts.{IsRustcFact, ReadsFacts}
 use Rattle.cfgx_engine.specs.declared.resolve.facts.FactsError.TheVariants as facts_error
@@ -26,7 +25,8 @@ use Rattle.cfgx_c.specs.Faults.{c_fault, fact_offset}
 use Rattle.cfgx_c.specs.Status.{faulty, faulty_fact, not_utf8}
 use Rattle.cfgx_c.specs.declared.fault.{CfgxFault.CfgxFault, Refusal.Refusal}
 use Rattle.cfgx_c.specs.internal.Refusals.{IsAbout, IsFirstFrom, IsThatOfFirst, Refuses}
-use Rattle.cfgx_c.specs.internal.Refusals.{RefusesText, fault_at, text_refusal, views}
+use Rattle.cfgx_c.specs.internal.Refusals.{RefusesText, fault_at, text_refusal, text_statuses}
+use Rattle.cfgx_c.specs.internal.Refusals.{views}
 
 -- The first item that is not good.
 
@@ -98,7 +98,7 @@ module _ (facts texts : List (List ℕ)) (refusal : Refusal) where
 
 -- of a call with one text that reads its facts
 pub Refuses-text : (facts : List (List ℕ)) (text : List ℕ) (refusal : Refusal) → All IsFact facts
-    → RefusesText text not_utf8 refusal → Refuses facts (text ∷ []) refusal
+    → RefusesText text text_statuses refusal → Refuses facts (text ∷ []) refusal
 Refuses-text facts text refusal good refuses = grind arith
 
 -- of a call with words of which one is not UTF-8
@@ -214,7 +214,7 @@ length-parts begin (end ∷ ends) items = ap suc (length-parts end ends items)
 -- the refusal of a text that is not UTF-8, or has a fault
 
 pub RefusesText-bytes : (text : List ℕ) (refusal : Refusal) → refusal.status ≡ not_utf8
-    → refusal.fault.item ≡ 0 → HasNoUtf8 text refusal.fault → RefusesText text not_utf8 refusal
+    → refusal.fault.item ≡ 0 → HasNoUtf8 text refusal.fault → RefusesText text text_statuses refusal
 RefusesText-bytes text refusal is number has =
     let first = IsFirst-seam IsUtf8 HasNoUtf8 [] text [] refusal.fault (All-nil IsUtf8) has in
     let none = All-nil IsFact in
@@ -222,7 +222,7 @@ RefusesText-bytes text refusal is number has =
 
 pub RefusesText-failure : {A : Type 0} (text : List ℕ) (failed : Failure A) → IsUtf8 text
     → Answers {A = A} (strip text) (Err failed)
-    → RefusesText text not_utf8 (text_refusal {A = A} 0 text failed)
+    → RefusesText text text_statuses (text_refusal {A = A} 0 text failed)
 RefusesText-failure text (failure.Memory refused) utf8 answers = grind arith
 RefusesText-failure {A} text (failure.Parse error) utf8 (found, is, reads) =
     let first = IsFirst-seam (λ text. HasOneTree (strip text)) HasFault [] text []

@@ -1,19 +1,28 @@
 -- Tokens that a lexer yields, and how they end.
-use Rattle.std.proofs.Common.{◌≡◌, ◌∙◌, ◌≤◌, ℕ, List, [], ◌∷◌, ◌++◌, Option, Some, None, ap}
-use Rattle.std.proofs.Common.{append-nil, append_assoc, drop, length, map, option_map, refl, sym}
-use Rattle.std.proofs.lemmas.List.{map-append}
-use Rattle.std.specs.{List.AllZip, declared.alloc.Global.Global}
+use Rattle.std.proofs.Common.{◌≡◌, ◌∙◌, ◌≤◌, ◌<◌, ◌+◌, ℕ, List, [], ◌∷◌, ◌++◌, Option, Some, None}
+use Rattle.std.specs.Prelude.{Err, Ok, Result}
+use Rattle.std.proofs.Common.{ap, append-nil, append_assoc, arith, drop, length, length-drop}
+use Rattle.std.proofs.Common.{length-take, map, option_map, refl, sym}
+use Rattle.std.proofs.Math.ListN.{set}
+use Rattle.std.proofs.Math.Seq.{drop-length}
+use Rattle.std.proofs.lemmas.List.{length-append, map-append, map-id, nil_from_length}
+use Rattle.std.specs.{List.AllZip, Prelude.slice_range, declared.alloc.Global.Global}
+use Rattle.cfgx_syntax.proofs.{FirstToken.Spells-some, Wrapping.strip-stands}
+use Rattle.cfgx_syntax.proofs.TokenList.{Follows-stands, ItemsFrom-same, no_more_items}
+use Rattle.cfg_expr.proofs.Written.{written_next}
 use Rattle.cfgx_syntax.specs.{Error.TextFault, Stripping.strip, Stripping.strip_offset}
-use Rattle.cfgx_syntax.specs.Items.{AreItems, Ending, IsBlank, Item, ItemsFrom}
-use Rattle.cfgx_syntax.specs.Lexer.{GivesFault, GivesItem, item_of}
+use Rattle.cfgx_syntax.specs.Items.{AreItems, Ending, EndsAs, IsBlank, Item, ItemsFrom}
+use Rattle.cfgx_syntax.specs.Lexer.{GivesFault, GivesItem, GivesNext, item_of}
 use Rattle.cfgx_syntax.specs.{LexerState.LexerState, LexerState.starting}
+use Rattle.cfgx_syntax.specs.declared.error.Failure.{Failure}
 use Rattle.cfgx_syntax.specs.declared.error.Failure.TheVariants as failure
 use Rattle.cfgx_syntax.specs.declared.error.ParseError.{ParseError}
 use Rattle.cfgx_syntax.specs.declared.lexer.LexerToken.{LexerToken}
 use Rattle.cfgx_c.specs.Buffer.{Fills}
 use Rattle.cfgx_c.specs.Tokens.{ListsTokens, Shows, TellsLexical, c_token}
 use Rattle.cfgx_c.specs.declared.{fault.CfgxFault.CfgxFault, tokens.CfgxToken.CfgxToken}
-use Rattle.cfgx_c.specs.internal.{Lexing.HasTokens, Refusals.fault_at}
+use Rattle.cfgx_c.specs.internal.Lexing.{AreTokens, HasTokenCount, HasTokens}
+use Rattle.cfgx_c.specs.internal.Refusals.{fault_at}
 use Rattle.cfgx_c.proofs.Described.{part_of_stripped}
 
 -- the lexer of the text has come to this place, behind the items that the tokens show
@@ -55,6 +64,21 @@ module _ {text : List ℕ} {tokens : List CfgxToken} {now : LexerState}
   token_within lexed next gives =
       let stands = rw reads.of_text at gives.stands in (stands.ordered, stands.inside)
 
+  -- a token has a byte at least
+  pub place_rises : (lexed : LexerToken) (next : LexerState) → GivesItem now (item_of lexed) next
+      → now.place + 1 ≤ next.place
+  place_rises lexed next gives =
+      let item = item_of lexed in
+      let some = Spells-some (slice_range now.text item.start item.end) item.token
+      gives.stands.spelled in
+      rw gives.goes_on (omega (
+        arith,
+        some,
+        gives.stands.comes_after,
+        length-take {A = ℕ},
+        length-drop {A = ℕ},
+      ))
+
   -- only white space is left
   pub HasTokens-end : IsBlank (drop now.place now.text) → HasTokens text tokens None
   HasTokens-end blank = record {
@@ -80,6 +104,92 @@ module _ {text : List ℕ} {tokens : List CfgxToken} {now : LexerState}
         (sym gives.fails);
   }
 
+-- the tokens so far were written over those of the buffer, and as many are left as there is room
+pub record Writes (text : List ℕ) (now : LexerState) (written : ℕ) (old buffer : List CfgxToken)
+    : Type 0 where
+  pub front : List CfgxToken
+  pub reads : Reads text front now
+  pub left : List Item
+  pub ending : Ending
+  pub come : ItemsFrom (strip text) now.place left ending
+  pub count : written ≡ length front
+  pub room : written + length left ≡ length old
+  pub shown : buffer ≡ front ++ drop written old
+
+pub Writes-start : (text : List ℕ) (buffer : List CfgxToken) → HasTokenCount text (length buffer)
+    → Writes text (starting (strip text)) 0 buffer buffer
+Writes-start text buffer has = record {
+  front = [];
+  reads = Reads-start text;
+  left = has.items;
+  ending = has.ending;
+  come = has.are_items;
+  count = refl;
+  room = omega (arith, has.counted);
+  shown = refl;
+}
+
+module _ {text : List ℕ} {now : LexerState} {written : ℕ} {old buffer : List CfgxToken}
+    (writes : Writes text now written old buffer) where
+  -- all tokens were written
+  pub Writes-all : written ≡ length old → AreTokens text buffer
+  Writes-all all =
+      let none : length writes.left ≡ 0 = omega (arith, all, writes.room) in
+      let no_more = nil_from_length writes.left none in
+      record {
+        items = writes.reads.items;
+        ending = writes.ending;
+        are_items = rw (append-nil writes.reads.items)
+            at (writes.reads.behind [] writes.ending (rw no_more at writes.come));
+        shown = writes.shown ∙ ap (λ n. writes.front ++ drop n old) all
+            ∙ rw (drop-length, append-nil) writes.reads.shown;
+      }
+
+  module _ (more : written < length old) where
+    -- there is a next token
+    not_over : (ending : Ending) → EndsAs now.text now.place ending → ⊥
+    not_over ending ends =
+        let over = no_more_items (strip text) now.place writes.left writes.ending ending
+        (rw writes.reads.of_text at ends) writes.come in
+        omega (arith, more, writes.room, ap length over.0)
+
+    -- the lexer yields it
+    pub Writes-next : (given : Option (Result LexerToken (Failure Global))) (next : LexerState)
+        → GivesNext {A = Global} now given next
+        → (lexed : LexerToken) × (given ≡ Some (Ok lexed))
+    Writes-next None next gives = absurd (not_over Ending.blank gives.0)
+    Writes-next (Some (Ok lexed)) next gives = (lexed, refl)
+    Writes-next (Some (Err failed)) next gives = absurd (not_over gives.ending gives.ends)
+
+    -- one token more
+    pub Writes-token : (lexed : LexerToken) (next : LexerState) → GivesItem now (item_of lexed) next
+        → Writes text next (written + 1) old
+        (set buffer written (c_token (strip_offset text) (item_of lexed)))
+    Writes-token lexed next gives =
+        let token = c_token (strip_offset text) (item_of lexed) in
+        let follows = Follows-stands (strip text) now.place (item_of lexed) writes.left
+        writes.ending (rw writes.reads.of_text at gives.stands) writes.come in
+        record {
+          front = writes.front ++ token ∷ [];
+          reads = Reads-token writes.reads lexed next gives;
+          left = follows.rest;
+          ending = writes.ending;
+          come = rw gives.goes_on follows.come;
+          count = omega (arith, writes.count, length-append writes.front (token ∷ []));
+          room = omega (arith, writes.room, ap length follows.items_are);
+          shown = rw map-id at (written_next (λ (x : CfgxToken). x) writes.front token old buffer
+              written writes.count more (rw map-id writes.shown));
+        }
+
+-- the tokens that were written are those that were counted
+pub same_tokens : (text : List ℕ) (counted written : List CfgxToken)
+    (error : Option (ParseError Global)) → HasTokens text counted error → AreTokens text written
+    → written ≡ counted
+same_tokens text counted written error has are =
+    let same = ItemsFrom-same (strip text) 0 has.items are.items has.ending are.ending
+    has.are_items are.are_items in
+    are.shown ∙ ap (map (c_token (strip_offset text))) same.0 ∙ sym has.shown
+
 -- each token shows its item, with its span moved by what was stripped
 shown_each : (text : List ℕ) (from : ℕ) (items : List Item) (ending : Ending)
     → ItemsFrom (strip text) from items ending
@@ -88,6 +198,8 @@ shown_each text from [] ending come = tt
 shown_each text from (item ∷ items) ending (stands, more) = (
   record {
     kind = refl;
+    ordered = omega (arith, stands.ordered);
+    inside = let (is, within) = strip-stands text in omega (arith, stands.inside, within);
     spelled = rw (part_of_stripped text item.start item.end stands.inside)
         at stands.spelled;
   },

@@ -16,7 +16,7 @@ abbrev pub otherwise_of : ℕ → Otherwise
 otherwise_of byte = if byte == 0 then otherwise.False else otherwise.Unknown
 
 -- the answers of the facts to the predicates of the text, in the order in which they are asked
-pub record AnswersBy (text : List ℕ) (facts : List (List ℕ)) (otherwise : Otherwise)
+pub record AnswersOfFacts (text : List ℕ) (facts : List (List ℕ)) (otherwise : Otherwise)
     (answers : List (Option Bool)) : Type 0 where
   pub one : HasOneTree (strip text)
   pub answered : AllZip (IsAnswer (texts_of facts) otherwise) (asked one.tree) answers
@@ -24,5 +24,5 @@ pub record AnswersBy (text : List ℕ) (facts : List (List ℕ)) (otherwise : Ot
 -- the buffer was filled with the bytes of the answers
 abbrev pub FillsAnswers : List ℕ → List (List ℕ) → ℕ → List ℕ → List ℕ → ℕ → Type 0
 FillsAnswers text facts otherwise old new needed = (answers : List (Option Bool))
-    × AnswersBy text facts (otherwise_of otherwise) answers
+    × AnswersOfFacts text facts (otherwise_of otherwise) answers
     × Fills (map byte_of_value answers) old new needed

@@ -1,30 +1,28 @@
 -- A decision as bytes.
 -- Source: include/cfgx.h.
-use Rattle.std.specs.Prelude.{◌≡◌, ◌++◌, ℕ, Bool, List, [], Option, Some, None, map}
-use Rattle.std.specs.declared.alloc.Global.{Global}
-use Rattle.cfg_expr.specs.Deciding.{Decides}
-use Rattle.cfg_expr.specs.declared.expr.Decision.{Decision}
-use Rattle.cfg_expr.specs.declared.expr.Decision.TheVariants as decision
+use Rattle.std.specs.Prelude.{◌≡◌, ◌++◌, ℕ, Bool, true, false, List, [], Option, Some, None, map}
+use Rattle.cfgx_grammar.specs.{Answer.HasOneTree, Tree.Tree}
+use Rattle.cfg_expr.specs.Filling.{IsExact, filling_bytes, polar, three_valued}
+use Rattle.cfg_expr.specs.Fold.{tree_fold}
 use Rattle.cfgx_c.specs.Buffer.{Fills}
 use Rattle.cfgx_c.specs.Value.{answer_of, byte_of_value}
 
--- the value that was decided
-abbrev pub value_in : Decision Global → Option Bool
-value_in (decision.Known value) = Some value
-value_in (decision.Unknown if_true if_false) = None
+-- the bytes of both polar fillings, one behind the other
+abbrev pub both_fillings : {X : Type 0} → Tree X → List (Option Bool) → List ℕ
+both_fillings tree answers =
+    filling_bytes (polar tree answers true) ++ filling_bytes (polar tree answers false)
 
--- the truth values of a filling as bytes
-abbrev pub filling_bytes : List Bool → List ℕ
-filling_bytes filling = map (λ truth. byte_of_value (Some truth)) filling
+-- both fillings if the value is unknown, and no bytes if it is known
+abbrev pub fillings_for : {X : Type 0} → Option Bool → Tree X → List (Option Bool) → List ℕ
+fillings_for (Some value) tree answers = []
+fillings_for None tree answers = both_fillings tree answers
 
--- both fillings, one behind the other, or no bytes if the value is known
-abbrev pub fillings_in : Decision Global → List ℕ
-fillings_in (decision.Known value) = []
-fillings_in (decision.Unknown if_true if_false) =
-    filling_bytes if_true.items ++ filling_bytes if_false.items
-
--- the value is that of the decision over these answers, and the buffer was filled with its fillings
-abbrev pub DecidesOver : List ℕ → List ℕ → List ℕ → List ℕ → ℕ → ℕ → Type 0
-DecidesOver text answers old new needed value =
-    (given : Decision Global) × Decides text (map answer_of answers) given
-    × (value ≡ byte_of_value (value_in given)) × Fills (fillings_in given) old new needed
+-- The value of the text's one tree over these answers was decided, and it is exact: it is known
+-- exactly if every filling of the unknown answers leads to it. The buffer was filled with both
+-- fillings if it is unknown.
+pub record DecidesOver (text answers old new : List ℕ) (needed value : ℕ) : Type 0 where
+  pub one : HasOneTree text
+  pub exact : IsExact one.tree (map answer_of answers)
+  pub value_is : value ≡ byte_of_value (tree_fold three_valued one.tree (map answer_of answers))
+  pub fills : Fills (fillings_for (tree_fold three_valued one.tree (map answer_of answers)) one.tree
+      (map answer_of answers)) old new needed

@@ -1,11 +1,12 @@
 -- What is wrong with texts and facts.
 -- Source: include/cfgx.h.
 use Rattle.std.specs.Prelude.{◌≡◌, ◌≢◌, ◌⊎◌, ◌+◌, ℕ, List, Some, Err, if◌then◌else◌, is_some}
-use Rattle.std.specs.Prelude.{slice_get, take}
+use Rattle.std.specs.Prelude.{IsSomeAnd, slice_get, take}
 use Rattle.std.specs.List.{All}
 use Rattle.std.specs.Str.{IsUtf8, IsValidUpTo}
 use Rattle.cfgx_syntax.specs.Stripping.{strip, strip_offset}
 use Rattle.cfgx_syntax.specs.Error.{Fault, cause_members, cause_number}
+use Rattle.cfgx_syntax.specs.Spans.{LiesIn}
 use Rattle.cfgx_syntax.specs.Terms.{terms_number}
 use Rattle.cfgx_grammar.specs.Answer.{HasOneTree, ReadsAs}
 use Rattle.cfgx_engine.specs.Facts.{IsRustcFact, fact_text, unknown_text}
@@ -93,3 +94,12 @@ pub record Tells (facts texts : List (List ℕ)) (status : ℕ) (fault : CfgxFau
   pub of_text : status ≡ faulty → All IsFact facts × All IsUtf8 texts
       × IsFirst (λ text. HasOneTree (strip text)) HasFault texts fault.item fault
   pub none : status ≢ faulty_fact → status ≢ not_utf8 → status ≢ faulty → fault ≡ no_fault
+
+-- the span of the fault, behind the `offset` bytes that were stripped, lies in the text as it was
+-- passed
+abbrev pub HasSpanIn : CfgxFault → List ℕ → Type 0
+HasSpanIn fault text = LiesIn text (fault.offset + fault.start) (fault.offset + fault.end)
+
+-- one of the items has the number of the fault, and the span of the fault lies in it
+abbrev pub HasSpanInItem : List (List ℕ) → CfgxFault → Type 0
+HasSpanInItem items fault = IsSomeAnd (slice_get items fault.item) (HasSpanIn fault)

@@ -3,13 +3,14 @@
 use Rattle.std.specs.Prelude.{◌≡◌, ◌≤◌, ◌+◌, ℕ, List, Option, Some, None, length, map}
 use Rattle.std.specs.Prelude.{slice_range}
 use Rattle.std.specs.List.{AllZip}
+use Rattle.cfgx_syntax.specs.Spans.{LiesIn}
 use Rattle.cfgx_syntax.specs.Stripping.{strip, strip_offset}
 use Rattle.cfgx_grammar.specs.Answer.{HasOneTree}
 use Rattle.cfgx_grammar.specs.Question.{Question}
 use Rattle.cfgx_grammar.specs.Tree.{asked}
 use Rattle.cfgx_parser.specs.Kinds.{kind_number, kind_of}
 use Rattle.cfgx_parser.specs.declared.nodes.Span.{Span}
-use Rattle.cfg_expr.specs.Located.{AreLocated, key_text, number_of, value_text}
+use Rattle.cfg_expr.specs.Located.{AreLocated, key_with_span, predicate_number, value_with_span}
 use Rattle.cfg_expr.specs.declared.expr.located.LocatedPredicate.{LocatedPredicate}
 use Rattle.cfgx_c.specs.declared.predicates.CfgxPredicate.{CfgxPredicate}
 
@@ -19,13 +20,14 @@ IsSpanOf text None start end = (start ≡ 0) × (end ≡ 0)
 IsSpanOf text (Some bytes) start end = (start ≤ end) × (end ≤ length text)
     × (slice_range text start end ≡ bytes)
 
--- the predicate describes the question, with spans in the text
+-- the predicate describes the question, with spans in the text, and lies in the text
 pub record Describes (text : List ℕ) (question : Question) (predicate : CfgxPredicate) : Type 0
   where
     pub kind : predicate.kind ≡ kind_number (kind_of question)
-    pub number : predicate.number ≡ number_of question
-    pub key : IsSpanOf text (key_text question) predicate.key_start predicate.key_end
-    pub value : IsSpanOf text (value_text question) predicate.value_start predicate.value_end
+    pub number : predicate.number ≡ predicate_number question
+    pub key : IsSpanOf text (key_with_span question) predicate.key_start predicate.key_end
+    pub value : IsSpanOf text (value_with_span question) predicate.value_start predicate.value_end
+    pub lies : LiesIn text predicate.start predicate.end
 
 -- the span with `offset` more bytes before it
 abbrev pub moved : ℕ → Span → Span

@@ -1,6 +1,6 @@
 -- What the calls return. A number means the same in all calls.
 -- Source: include/cfgx.h.
-use Rattle.std.specs.Prelude.{ℕ}
+use Rattle.std.specs.Prelude.{◌≡◌, ◌⊎◌, ℕ, List, [], ◌∷◌}
 
 -- the call succeeded; a buffer that is too small stays as it was
 abbrev pub done : ℕ
@@ -22,7 +22,7 @@ out_of_memory = 3
 abbrev pub not_utf8 : ℕ
 not_utf8 = 4
 
--- there are more or fewer answers than predicates
+-- there are more or fewer answers than predicates, or than steps that ask
 abbrev pub miscounted : ℕ
 miscounted = 5
 
@@ -30,7 +30,7 @@ miscounted = 5
 abbrev pub bad_ends : ℕ
 bad_ends = 6
 
--- over no answers do the steps have a value
+-- the steps have no value over the answers, of which there are as many as steps that ask
 abbrev pub no_value : ℕ
 no_value = 7
 
@@ -41,3 +41,8 @@ too_large = 8
 -- a fact is faulty, or not UTF-8
 abbrev pub faulty_fact : ℕ
 faulty_fact = 9
+
+-- the status is one of these
+abbrev pub IsOneOf : ℕ → List ℕ → Type 0
+IsOneOf status [] = ⊥
+IsOneOf status (one ∷ others) = (status ≡ one) ⊎ IsOneOf status others

@@ -1,6 +1,7 @@
 -- What `cfgx_tokens` lists.
 -- Source: include/cfgx.h.
-use Rattle.std.specs.Prelude.{◌≡◌, ◌+◌, ℕ, List, Option, Some, None, map, slice_range}
+use Rattle.std.specs.Prelude.{◌≡◌, ◌≤◌, ◌+◌, ℕ, List, Option, Some, None, length, map}
+use Rattle.std.specs.Prelude.{slice_range}
 use Rattle.std.specs.{List.AllZip, Str.IsValidUpTo}
 use Rattle.cfgx_syntax.specs.{Error.Fault, Token.Spells, Token.Token}
 use Rattle.cfgx_syntax.specs.Items.{AreItems, Ending, Item, lexical}
@@ -31,9 +32,11 @@ c_token offset item = record {
   end = item.end + offset;
 }
 
--- the token has the kind of the item, and the bytes at its span in the text spell it
+-- the token has the kind of the item, and lies in the text, where the bytes at its span spell it
 pub record Shows (text : List ℕ) (item : Item) (token : CfgxToken) : Type 0 where
   pub kind : token.kind ≡ token_number item.token
+  pub ordered : token.start ≤ token.end
+  pub inside : token.end ≤ length text
   pub spelled : Spells (slice_range text token.start token.end) item.token
 
 -- what the status and the fault say of the lexical fault of the text, if it has one

@@ -20,7 +20,7 @@ byte_of_value None = 2
 
 -- the value of the text's one tree over these answers, one for each predicate in the order in which
 -- they are asked
-pub record HasValueOver (text answers : List ℕ) (value : ℕ) : Type 0 where
+pub record HasValueByteOver (text answers : List ℕ) (value : ℕ) : Type 0 where
   pub one : HasOneTree text
   pub count : length answers ≡ length (asked one.tree)
   pub value_is : value ≡ byte_of_value (tree_fold three_valued one.tree (map answer_of answers))

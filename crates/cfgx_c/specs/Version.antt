@@ -9,10 +9,10 @@ language = 2
 -- the version of the calls: a program that uses the calls of one major version can use those of no
 -- other, and those of a minor version with each higher one
 abbrev pub major : ℕ
-major = 2
+major = 3
 
 abbrev pub minor : ℕ
-minor = 1
+minor = 0
 
 -- the three as one number
 abbrev pub version : ℕ

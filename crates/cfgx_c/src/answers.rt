@@ -1,16 +1,16 @@
 //! The answers of the facts of a target to the predicates of a condition.
 
-ghost use Rattle.std.specs.Prelude.{◌≡◌, ◌≢◌, ◌↔◌, ◌≤◌, [], ◌∷◌, IfErr, IfOk, length};
+ghost use Rattle.std.specs.Prelude.{◌≡◌, ◌≢◌, ◌↔◌, [], ◌∷◌, IfErr, IfOk, length};
 ghost use Rattle.std.specs.List.{All, AllZip};
 ghost use Rattle.cfgx_grammar.specs.Answer.{HasOneTree};
 ghost use Rattle.cfgx_grammar.specs.Tree.{asked};
 ghost use Rattle.cfg_expr.specs.Predicate.{question_of};
 ghost use Rattle.cfgx_engine.specs.Facts.{IsAnswer};
-ghost use Rattle.cfgx_c.specs.Answers.{AnswersBy, FillsAnswers, otherwise_of};
+ghost use Rattle.cfgx_c.specs.Answers.{AnswersOfFacts, FillsAnswers, otherwise_of};
 ghost use Rattle.cfgx_c.specs.Ends.{AreEnds, parts};
 ghost use Rattle.cfgx_c.specs.Faults.{IsCondition, IsFact, Tells};
-ghost use Rattle.cfgx_c.specs.Status.{bad_ends, done, faulty_fact, miscounted, no_value, too_large};
-ghost use Rattle.cfgx_c.specs.Status.{wrong_use};
+ghost use Rattle.cfgx_c.specs.Status.{IsOneOf, bad_ends, done, faulty, faulty_fact, not_utf8};
+ghost use Rattle.cfgx_c.specs.Status.{out_of_memory};
 ghost use Rattle.cfgx_c.specs.internal.Refusals.{Refuses};
 
 use crate::bytes::fill_values;
@@ -76,7 +76,7 @@ fn find_answers(
     requires { AreEnds fact_ends.now (length facts.now) }
     ensures ok { IfOk result (λ answers. All IsFact (parts fact_ends.now facts.now)
         × IsCondition text.now
-        × AnswersBy text.now (parts fact_ends.now facts.now) otherwise answers.items) }
+        × AnswersOfFacts text.now (parts fact_ends.now facts.now) otherwise answers.items) }
     ensures err { IfErr result (Refuses (parts fact_ends.now facts.now) (text.now ∷ [])) }
 {
     let facts = texts(alloc, facts, fact_ends, FAULTY_FACT)?;
@@ -121,8 +121,8 @@ pub extern "C" fn cfgx_answers(
     ensures read { Tells (parts fact_ends.now facts.now) (text.now ∷ []) result fault.new }
     ensures bad_ends { (result ≡ bad_ends) ↔ ¬ AreEnds fact_ends.now (length facts.now) }
     ensures kept { result ≢ done → (answers.new ≡ answers.old) × (needed.new ≡ 0) }
-    ensures status { (result ≤ faulty_fact) × (result ≢ wrong_use) × (result ≢ miscounted)
-        × (result ≢ no_value) × (result ≢ too_large) }
+    ensures status { IsOneOf result
+        (done ∷ faulty ∷ not_utf8 ∷ out_of_memory ∷ faulty_fact ∷ bad_ends ∷ []) }
 {
     *needed = 0;
     *fault = CfgxFault::default();

@@ -1,12 +1,12 @@
 //! The values of many conditions on many targets.
 
-ghost use Rattle.std.specs.Prelude.{◌≡◌, ◌≢◌, ◌↔◌, ◌≤◌, ◌*◌, ◌^◌, IfErr, IfOk, length};
+ghost use Rattle.std.specs.Prelude.{◌≡◌, ◌≢◌, ◌↔◌, ◌≤◌, ◌*◌, ◌^◌, [], ◌∷◌, IfErr, IfOk, length};
 ghost use Rattle.std.specs.List.{All};
 ghost use Rattle.cfgx_c.specs.Audit.{AreAllEnds, FillsValues, ValuesBy};
 ghost use Rattle.cfgx_c.specs.Ends.{parts};
 ghost use Rattle.cfgx_c.specs.Faults.{IsCondition, IsFact, Tells};
-ghost use Rattle.cfgx_c.specs.Status.{bad_ends, done, faulty_fact, miscounted, no_value, too_large};
-ghost use Rattle.cfgx_c.specs.Status.{wrong_use};
+ghost use Rattle.cfgx_c.specs.Status.{IsOneOf, bad_ends, done, faulty, faulty_fact, not_utf8};
+ghost use Rattle.cfgx_c.specs.Status.{out_of_memory, too_large};
 ghost use Rattle.cfgx_c.specs.internal.Refusals.{Refuses};
 
 use crate::answers::otherwise_of;
@@ -93,8 +93,8 @@ pub extern "C" fn cfgx_audit(
         ↔ (AreAllEnds texts.now text_ends.now facts.now fact_ends.now target_ends.now
         × (2 ^ 64 ≤ length text_ends.now * length target_ends.now)) }
     ensures kept { result ≢ done → (values.new ≡ values.old) × (needed.new ≡ 0) }
-    ensures status { (result ≤ faulty_fact) × (result ≢ wrong_use) × (result ≢ miscounted)
-        × (result ≢ no_value) }
+    ensures status { IsOneOf result (done ∷ faulty ∷ not_utf8 ∷ out_of_memory ∷ faulty_fact
+        ∷ bad_ends ∷ too_large ∷ []) }
 {
     *needed = 0;
     *fault = CfgxFault::default();

@@ -51,6 +51,16 @@ pub(crate) fn answers_of<'a>(
     Ok(answers)
 }
 
+/// Writes the answers in `bytes` to `list`, which has an item for each of them.
+pub(crate) fn read_answers(bytes: &[u8], list: &mut [Option<bool>])
+    requires { length list.old ≡ length bytes.now }
+    ensures { list.new ≡ map answer_of bytes.now }
+{
+    for i in 0..bytes.len() {
+        list[i] = answer_of(bytes[i]);
+    }
+}
+
 /// Evaluates a condition over `answers`, which are in the order of its predicates.
 ///
 /// The error is that `alloc` refused memory.

@@ -3,8 +3,8 @@
 ghost use Rattle.std.specs.Prelude.{◌≡◌, ◌≢◌, ◌≤◌, [], ◌∷◌, IfErr, OnOk};
 ghost use Rattle.std.specs.Str.{IsUtf8};
 ghost use Rattle.cfgx_c.specs.Faults.{IsCondition, Tells};
-ghost use Rattle.cfgx_c.specs.Status.{done, not_utf8, wrong_use};
-ghost use Rattle.cfgx_c.specs.internal.Refusals.{RefusesText};
+ghost use Rattle.cfgx_c.specs.Status.{IsOneOf, done, faulty, not_utf8, out_of_memory};
+ghost use Rattle.cfgx_c.specs.internal.Refusals.{RefusesText, text_statuses};
 
 use crate::fault::{CfgxFault, Refusal};
 use crate::reading::{read_condition, read_text};
@@ -17,7 +17,7 @@ use std::alloc::Global;
 /// The error is about the text, or memory was refused.
 fn check(alloc: Global, text: &[u8]) -> Result<(), Refusal>
     ensures ok { OnOk result (IsCondition text.now) }
-    ensures err { IfErr result (RefusesText text.now not_utf8) }
+    ensures err { IfErr result (RefusesText text.now text_statuses) }
 {
     let mut reader = ConditionReader::new(alloc);
     read_condition(&mut reader, read_text(text)?)?;
@@ -34,7 +34,7 @@ pub extern "C" fn cfgx_check(alloc: Global, text: &[u8], fault: &mut CfgxFault) 
     ensures done { result ≡ done → IsCondition text.now }
     ensures read { Tells [] (text.now ∷ []) result fault.new }
     ensures utf8 { result ≢ not_utf8 → IsUtf8 text.now }
-    ensures status { (result ≤ not_utf8) × (result ≢ wrong_use) }
+    ensures status { IsOneOf result (done ∷ faulty ∷ not_utf8 ∷ out_of_memory ∷ []) }
 {
     *fault = CfgxFault::default();
     match check(alloc, text) {

@@ -3,9 +3,9 @@
 ghost use Rattle.std.specs.Prelude.{◌≡◌, ◌≢◌, ◌≤◌, [], ◌∷◌, IfErr, IfOk, OnErr};
 ghost use Rattle.std.specs.Str.{IsUtf8};
 ghost use Rattle.cfgx_c.specs.Faults.{Tells};
-ghost use Rattle.cfgx_c.specs.Status.{done, not_utf8, wrong_use};
+ghost use Rattle.cfgx_c.specs.Status.{IsOneOf, done, faulty, not_utf8, out_of_memory};
 ghost use Rattle.cfgx_c.specs.Steps.{Compiles};
-ghost use Rattle.cfgx_c.specs.internal.Refusals.{RefusesText};
+ghost use Rattle.cfgx_c.specs.internal.Refusals.{RefusesText, text_statuses};
 
 use crate::fault::{CfgxFault, Refusal};
 use crate::predicates::{CfgxPredicate, write_predicates};
@@ -27,7 +27,7 @@ fn compile(
 ) -> Result<(usize, usize), Refusal>
     ensures ok { IfOk result (λ needed. IsUtf8 text.now × Compiles text.now steps.old steps.new
         needed.0 predicates.old predicates.new needed.1) }
-    ensures err { IfErr result (RefusesText text.now not_utf8) }
+    ensures err { IfErr result (RefusesText text.now text_statuses) }
     ensures kept { OnErr result ((steps.new ≡ steps.old) × (predicates.new ≡ predicates.old)) }
 {
     // The reader stands in front of what can fail, or its room would be cleared once more.
@@ -39,13 +39,13 @@ fn compile(
     if step_count > steps.len() || count > predicates.len() {
         return Ok((step_count, count));
     }
-    condition.write_steps(alloc, &mut steps[..step_count])?;
+    condition.write_steps(&mut steps[..step_count]);
     write_predicates(text, located, predicates);
     Ok((step_count, count))
 }
 
 /// Compiles a condition to steps and its predicates, so that a program can evaluate it with a
-/// stack, with values of any logic. The steps ask the predicates one after another.
+/// stack, with values of any logic. The steps are the nodes of its tree, as they stand in the text.
 ///
 /// Returns the status `DONE`, fills `steps` and `predicates`, or neither of them if one has too
 /// little room, and writes their numbers to `steps_needed` and `predicates_needed`. Returns
@@ -68,7 +68,7 @@ pub extern "C" fn cfgx_compile(
     ensures utf8 { result ≢ not_utf8 → IsUtf8 text.now }
     ensures kept { result ≢ done → (steps.new ≡ steps.old) × (predicates.new ≡ predicates.old)
         × (steps_needed.new ≡ 0) × (predicates_needed.new ≡ 0) }
-    ensures status { (result ≤ not_utf8) × (result ≢ wrong_use) }
+    ensures status { IsOneOf result (done ∷ faulty ∷ not_utf8 ∷ out_of_memory ∷ []) }
 {
     *steps_needed = 0;
     *predicates_needed = 0;

@@ -1,76 +1,47 @@
 //! The decision of a condition over answers.
 
-ghost use Rattle.std.specs.Prelude.{◌≡◌, ◌≢◌, ◌≤◌, ◌++◌, [], ◌∷◌, IfOk, drop, length, map};
+ghost use Rattle.std.specs.Prelude.{◌≡◌, ◌≢◌, ◌++◌, [], ◌∷◌, IfOk, OnErr, map};
 ghost use Rattle.std.specs.Str.{IsUtf8};
 ghost use Rattle.cfgx_c.specs.Buffer.{Fills};
 ghost use Rattle.cfgx_syntax.specs.Stripping.{strip};
+ghost use Rattle.cfgx_grammar.specs.Answer.{HasOneTree};
 ghost use Rattle.cfg_expr.specs.Given.{AreAnswersTo};
-ghost use Rattle.cfg_expr.specs.Deciding.{Decides};
 ghost use Rattle.cfgx_c.specs.Faults.{Tells};
-ghost use Rattle.cfgx_c.specs.Decide.{DecidesOver, filling_bytes, fillings_in, value_in};
-ghost use Rattle.cfgx_c.specs.Status.{done, miscounted, not_utf8, wrong_use};
+ghost use Rattle.cfgx_c.specs.Decide.{DecidesOver, both_fillings};
+ghost use Rattle.cfgx_c.specs.Status.{IsOneOf, done, faulty, miscounted, not_utf8, out_of_memory};
 ghost use Rattle.cfgx_c.specs.Value.{HasOtherCount, answer_of, byte_of_value};
 
-use crate::bytes::{answers_of, byte_of_value};
+use crate::bytes::{answers_of, byte_of_value, eval_over_bytes};
 use crate::fault::CfgxFault;
 use crate::reading::read_answered;
 use crate::status::{DONE, OUT_OF_MEMORY};
-use cfg_expr::Decision;
 use cfg_expr::expr::{Condition, ConditionReader};
 use std::alloc::{AllocError, Global};
 
-/// Returns the value of a decision.
-fn value_in(decision: &Decision) -> Option<bool>
-    ensures { result ≡ value_in decision.now }
-{
-    match decision {
-        Decision::Known(value) => Some(*value),
-        Decision::Unknown { .. } => None,
-    }
-}
-
-/// Writes the truth values of `filling` to the start of `buffer`, a byte for each.
-fn write_filling(buffer: &mut [u8], filling: &[bool])
-    requires { length filling.now ≤ length buffer.old }
-    ensures { buffer.new ≡ filling_bytes filling.now ++ drop (length filling.now) buffer.old }
-{
-    for i in 0..filling.len() {
-        buffer[i] = byte_of_value(Some(filling[i]));
-    }
-}
-
-/// Fills `buffer` with both fillings of a decision, one behind the other. Returns their length,
-/// which is 0 if the value is known.
-fn fill_fillings(buffer: &mut [u8], decision: &Decision) -> usize
-    ensures { Fills (fillings_in decision.now) buffer.old buffer.new result }
-{
-    let Decision::Unknown { if_true, if_false } = decision else {
-        return 0;
-    };
-    let needed = if_true.len() + if_false.len();
-    if needed <= buffer.len() {
-        let (first, second) = buffer.split_at_mut(if_true.len());
-        write_filling(first, if_true.as_slice());
-        write_filling(second, if_false.as_slice());
-    }
-    needed
-}
-
-/// Decides a condition over `answers`, which are in the order of its predicates.
+/// Writes both fillings of `answers` to the start of `buffer`, one behind the other, if they fit.
+/// Returns their length. Takes no memory if they do not fit.
 ///
 /// The error is that `alloc` refused memory.
-fn decide_over_bytes(
+fn fill_fillings(
     alloc: Global,
     condition: &Condition<'_>,
     answers: &[u8],
-) -> Result<Decision, AllocError>
+    buffer: &mut [u8],
+) -> Result<usize, AllocError>
     requires { AreAnswersTo answers.now condition.now }
-    ensures { IfOk result (Decides condition.now (map answer_of answers.now)) }
+    ensures ok { IfOk result (λ needed. (one : HasOneTree condition.now)
+        → Fills (both_fillings one.tree (map answer_of answers.now)) buffer.old buffer.new needed) }
+    ensures kept { OnErr result (buffer.new ≡ buffer.old) }
 {
+    let count = answers.len();
+    let needed = count + count;
+    if needed > buffer.len() {
+        return Ok(needed);
+    }
     let answers = answers_of(&alloc, answers)?;
-    let mut decision = Decision::default();
-    condition.decide(alloc, answers.as_slice(), &mut decision)?;
-    Ok(decision)
+    let (if_true, rest) = buffer.split_at_mut(count);
+    condition.write_fillings(alloc, answers.as_slice(), if_true, &mut rest[..count])?;
+    Ok(needed)
 }
 
 /// Decides a condition over answers to its predicates, which are as for `cfgx_value`.
@@ -102,7 +73,8 @@ pub extern "C" fn cfgx_decide(
     ensures miscounted { result ≡ miscounted → HasOtherCount (strip text.now) answers.now }
     ensures kept { result ≢ done → (fillings.new ≡ fillings.old) × (needed.new ≡ 0)
         × (value.new ≡ byte_of_value None) }
-    ensures status { (result ≤ miscounted) × (result ≢ wrong_use) }
+    ensures status { IsOneOf result
+        (done ∷ faulty ∷ not_utf8 ∷ out_of_memory ∷ miscounted ∷ []) }
 {
     *needed = 0;
     *value = byte_of_value(None);
@@ -112,10 +84,18 @@ pub extern "C" fn cfgx_decide(
         Ok(condition) => condition,
         Err(refusal) => return refusal.report(fault),
     };
-    let Ok(decision) = decide_over_bytes(alloc, &condition, answers) else {
-        return OUT_OF_MEMORY;
-    };
-    *needed = fill_fillings(fillings, &decision);
-    *value = byte_of_value(value_in(&decision));
-    DONE
+    match eval_over_bytes(alloc, &condition, answers) {
+        Ok(Some(known)) => {
+            *value = byte_of_value(Some(known));
+            DONE
+        }
+        Ok(None) => match fill_fillings(alloc, &condition, answers, fillings) {
+            Ok(count) => {
+                *needed = count;
+                DONE
+            }
+            Err(_) => OUT_OF_MEMORY,
+        },
+        Err(_) => OUT_OF_MEMORY,
+    }
 }

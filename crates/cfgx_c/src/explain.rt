@@ -7,7 +7,7 @@ ghost use Rattle.cfgx_syntax.specs.Stripping.{strip};
 ghost use Rattle.cfgx_grammar.specs.Answer.{ReadsAs};
 ghost use Rattle.cfgx_c.specs.Faults.{IsCondition, Tells};
 ghost use Rattle.cfgx_c.specs.Buffer.{Fills};
-ghost use Rattle.cfgx_c.specs.Status.{done, faulty, not_utf8, wrong_use};
+ghost use Rattle.cfgx_c.specs.Status.{IsOneOf, done, faulty, not_utf8, out_of_memory};
 
 use crate::buffer::fill;
 use crate::fault::CfgxFault;
@@ -38,7 +38,7 @@ pub extern "C" fn cfgx_explain(
     ensures read { Tells [] (text.now ∷ []) result fault.new }
     ensures utf8 { result ≢ not_utf8 → IsUtf8 text.now }
     ensures kept { result ≢ faulty → (message.new ≡ message.old) × (needed.new ≡ 0) }
-    ensures status { (result ≤ not_utf8) × (result ≢ wrong_use) }
+    ensures status { IsOneOf result (done ∷ faulty ∷ not_utf8 ∷ out_of_memory ∷ []) }
 {
     *needed = 0;
     *fault = CfgxFault::default();

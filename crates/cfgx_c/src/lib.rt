@@ -13,6 +13,7 @@ mod decide;
 mod ends;
 mod explain;
 mod fault;
+pub mod laws;
 mod predicates;
 mod reading;
 mod run;

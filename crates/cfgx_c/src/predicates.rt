@@ -5,13 +5,13 @@ ghost use Rattle.std.specs.Prelude.{◌∷◌, IfErr, IfOk, OnErr, drop, length,
 ghost use Rattle.std.specs.Str.{IsUtf8};
 ghost use Rattle.cfgx_syntax.specs.Stripping.{strip, strip_offset};
 ghost use Rattle.cfgx_grammar.specs.Question.{Question};
-ghost use Rattle.cfg_expr.specs.Located.{AreLocated, CanBeCut, Locates};
+ghost use Rattle.cfg_expr.specs.Located.{AreLocated, IsSpanIfAny, Locates};
 ghost use Rattle.cfgx_c.specs.Buffer.{Fills};
 ghost use Rattle.cfgx_c.specs.Faults.{Tells};
 ghost use Rattle.cfgx_c.specs.Predicates.{ListsPredicates, c_predicate, moved, moved_or_none};
-ghost use Rattle.cfgx_c.specs.Status.{done, not_utf8, wrong_use};
+ghost use Rattle.cfgx_c.specs.Status.{IsOneOf, done, faulty, not_utf8, out_of_memory};
 ghost use Rattle.cfgx_c.specs.declared.predicates.CfgxPredicate.{CfgxPredicate};
-ghost use Rattle.cfgx_c.specs.internal.Refusals.{RefusesText};
+ghost use Rattle.cfgx_c.specs.internal.Refusals.{RefusesText, text_statuses};
 
 use crate::fault::{CfgxFault, Refusal};
 use crate::reading::{read_condition, read_text};
@@ -57,7 +57,7 @@ fn moved(span: Span, offset: usize) -> Span
 
 /// Returns `span` moved by `offset` bytes, or that from 0 to 0 if there is none.
 fn moved_or_none(span: Option<Span>, offset: usize) -> Span
-    requires { (text : List ℕ) × CanBeCut text span × (length text + offset < 2 ^ 64) }
+    requires { (text : List ℕ) × IsSpanIfAny text span × (length text + offset < 2 ^ 64) }
     ensures { result ≡ moved_or_none offset span }
 {
     match span {
@@ -116,7 +116,7 @@ fn fill_predicates(
 ) -> Result<usize, Refusal>
     ensures ok { IfOk result (λ needed. IsUtf8 text.now × (list : List CfgxPredicate)
         × ListsPredicates text.now list × Fills list buffer.old buffer.new needed) }
-    ensures err { IfErr result (RefusesText text.now not_utf8) }
+    ensures err { IfErr result (RefusesText text.now text_statuses) }
     ensures kept { OnErr result (buffer.new ≡ buffer.old) }
 {
     // The reader stands in front of what can fail, or its room would be cleared once more.
@@ -153,7 +153,7 @@ pub extern "C" fn cfgx_predicates(
     ensures read { Tells [] (text.now ∷ []) result fault.new }
     ensures utf8 { result ≢ not_utf8 → IsUtf8 text.now }
     ensures kept { result ≢ done → (predicates.new ≡ predicates.old) × (needed.new ≡ 0) }
-    ensures status { (result ≤ not_utf8) × (result ≢ wrong_use) }
+    ensures status { IsOneOf result (done ∷ faulty ∷ not_utf8 ∷ out_of_memory ∷ []) }
 {
     *needed = 0;
     *fault = CfgxFault::default();

@@ -1,6 +1,6 @@
 //! Conditions and facts.
 
-ghost use Rattle.std.specs.Prelude.{◌≡◌, ◌+◌, ◌<◌, ◌^◌, IfErr, IfOk, length};
+ghost use Rattle.std.specs.Prelude.{◌≡◌, ◌+◌, ◌<◌, ◌^◌, ◌∷◌, IfErr, IfOk, length};
 ghost use Rattle.std.specs.List.{All, AllZip};
 ghost use Rattle.std.specs.Str.{IsUtf8};
 ghost use Rattle.cfgx_syntax.specs.Stripping.{strip};
@@ -12,7 +12,7 @@ ghost use Rattle.cfgx_c.specs.Faults.{HasFactFault, fact_offset};
 ghost use Rattle.cfgx_c.specs.Status.{faulty_fact, miscounted, not_utf8};
 ghost use Rattle.cfgx_c.specs.Value.{HasOtherCount};
 ghost use Rattle.cfgx_c.specs.internal.Refusals.{IsAbout, IsFirstFrom};
-ghost use Rattle.cfgx_c.specs.internal.Refusals.{RefusesText, text_refusal, views};
+ghost use Rattle.cfgx_c.specs.internal.Refusals.{RefusesText, text_refusal, text_statuses, views};
 
 use crate::fault::{CfgxFault, Refusal};
 use crate::status::{FAULTY, FAULTY_FACT, MISCOUNTED, NOT_UTF8, OUT_OF_MEMORY};
@@ -27,7 +27,7 @@ use std::alloc::Global;
 /// The error is about the text.
 pub(crate) fn read_text(text: &[u8]) -> Result<&str, Refusal>
     ensures ok { IfOk result (λ read. (read.now ≡ text.now) × IsUtf8 text.now) }
-    ensures err { IfErr result (RefusesText text.now not_utf8) }
+    ensures err { IfErr result (RefusesText text.now text_statuses) }
     ensures status { IfErr result (λ refusal. refusal.status ≡ not_utf8) }
 {
     match str::from_utf8(text) {
@@ -63,7 +63,7 @@ pub(crate) fn read_condition<'r, 'a>(
 ) -> Result<Condition<'r>, Refusal>
     ensures ok { IfOk result (λ condition. (condition ≡ strip text.now)
         × HasOneTree (strip text.now)) }
-    ensures err { IfErr result (RefusesText text.now not_utf8) }
+    ensures err { IfErr result (RefusesText text.now text_statuses) }
 {
     match reader.read(text) {
         Ok(condition) => Ok(condition),
@@ -81,7 +81,7 @@ pub(crate) fn read_answered<'r, 'a>(
 ) -> Result<Condition<'r>, Refusal>
     ensures ok { IfOk result (λ condition. (condition ≡ strip text.now) × IsUtf8 text.now) }
     ensures counted { IfOk result (AreAnswersTo answers.now) }
-    ensures err { IfErr result (RefusesText text.now miscounted) }
+    ensures err { IfErr result (RefusesText text.now (miscounted ∷ text_statuses)) }
     ensures other_count { IfErr result (λ refusal. refusal.status ≡ miscounted
         → HasOtherCount (strip text.now) answers.now) }
 {

@@ -1,10 +1,11 @@
 //! A run of the program.
 
-ghost use Rattle.std.specs.Prelude.{◌≡◌, ◌↔◌, ◌<◌, ◌≤◌, ◌⊎◌, All, length};
+ghost use Rattle.std.specs.Prelude.{◌≡◌, ◌↔◌, [], ◌∷◌, All, length};
 ghost use Rattle.std.specs.Str.{IsUtf8};
 ghost use Rattle.cfgx_c.specs.Ends.{AreEnds, parts};
 ghost use Rattle.cfgx_c.specs.Run.{Runs};
-ghost use Rattle.cfgx_c.specs.Status.{bad_ends, not_utf8, out_of_memory};
+ghost use Rattle.cfgx_c.specs.Status.{IsOneOf, bad_ends, done, faulty, not_utf8, out_of_memory};
+ghost use Rattle.cfgx_c.specs.Status.{wrong_use};
 
 use crate::buffer::fill;
 use crate::ends::{are_ends, texts};
@@ -29,13 +30,17 @@ pub extern "C" fn cfgx_run(
     output: &mut [u8],
     needed: &mut usize,
 ) -> u32
-    ensures run { result < out_of_memory → Runs (parts word_ends.now words.now) input.now result
+    ensures run { IsOneOf result (done ∷ faulty ∷ wrong_use ∷ [])
+        → Runs (parts word_ends.now words.now) input.now result
         output.old output.new needed.new }
-    ensures kept { out_of_memory ≤ result → (output.new ≡ output.old) × (needed.new ≡ 0) }
+    ensures kept { IsOneOf result (out_of_memory ∷ not_utf8 ∷ bad_ends ∷ [])
+        → (output.new ≡ output.old) × (needed.new ≡ 0) }
     ensures bad_ends { (result ≡ bad_ends) ↔ ¬ AreEnds word_ends.now (length words.now) }
     ensures not_utf8 { result ≡ not_utf8 → ¬ All IsUtf8 (parts word_ends.now words.now) }
-    ensures utf8 { result < out_of_memory → All IsUtf8 (parts word_ends.now words.now) }
-    ensures status { (result ≤ not_utf8) ⊎ (result ≡ bad_ends) }
+    ensures utf8 { IsOneOf result (done ∷ faulty ∷ wrong_use ∷ [])
+        → All IsUtf8 (parts word_ends.now words.now) }
+    ensures status { IsOneOf result (done ∷ faulty ∷ wrong_use ∷ out_of_memory ∷ not_utf8
+        ∷ bad_ends ∷ []) }
 {
     *needed = 0;
     if !are_ends(word_ends, words.len()) {

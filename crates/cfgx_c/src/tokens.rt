@@ -1,15 +1,16 @@
 //! The tokens of a text as C sees them.
 
-ghost use Rattle.std.specs.Prelude.{◌≡◌, ◌≢◌, ◌≤◌, ◌<◌, ◌+◌, ◌^◌, IfOk};
+ghost use Rattle.std.specs.Prelude.{◌≡◌, ◌≢◌, ◌<◌, ◌+◌, ◌^◌, List, [], ◌∷◌, IfOk, OnErr, length};
 ghost use Rattle.std.specs.Str.{IsUtf8};
 ghost use Rattle.cfgx_syntax.specs.Lexer.{item_of, token_of};
 ghost use Rattle.cfgx_syntax.specs.Stripping.{strip_offset};
+ghost use Rattle.cfgx_c.specs.Buffer.{Fills};
 ghost use Rattle.cfgx_c.specs.Faults.{no_fault};
-ghost use Rattle.cfgx_c.specs.Status.{faulty, not_utf8, out_of_memory, wrong_use};
+ghost use Rattle.cfgx_c.specs.Status.{IsOneOf, done, faulty, not_utf8, out_of_memory};
 ghost use Rattle.cfgx_c.specs.Tokens.{IsNoUtf8, ListsTokens, c_token, token_number};
-ghost use Rattle.cfgx_c.specs.internal.Lexing.{HasTokens};
+ghost use Rattle.cfgx_c.specs.declared.tokens.CfgxToken.{CfgxToken};
+ghost use Rattle.cfgx_c.specs.internal.Lexing.{AreTokens, HasTokenCount, HasTokens};
 
-use crate::buffer::fill;
 use crate::fault::CfgxFault;
 use crate::reading::read_text;
 use crate::status::{DONE, FAULTY, OUT_OF_MEMORY};
@@ -60,25 +61,60 @@ fn c_token(lexed: &LexerToken<'_>, offset: usize) -> CfgxToken
     }
 }
 
-/// Returns the tokens of a text up to its lexical fault, and this fault if it has one.
+/// Returns the number of tokens of a text up to its lexical fault, and this fault if it has one.
+/// Takes no memory for a text without one.
 ///
 /// The error is that `alloc` refused memory.
-fn read_tokens(
-    alloc: Global,
-    text: &str,
-) -> Result<(Vec<CfgxToken>, Option<ParseError>), AllocError>
-    ensures { IfOk result (λ read. HasTokens text.now read.0.items read.1) }
+fn count_tokens(alloc: Global, text: &str) -> Result<(usize, Option<ParseError>), AllocError>
+    ensures { IfOk result (λ counted. (tokens : List CfgxToken)
+        × HasTokens text.now tokens counted.1 × (counted.0 ≡ length tokens)) }
 {
-    let offset = strip(text).offset;
-    let mut tokens = Vec::new(alloc);
+    let mut count = 0;
     for lexed in Lexer::new(alloc, text) {
         match lexed {
-            Ok(lexed) => tokens.push(c_token(&lexed, offset))?,
-            Err(Failure::Parse(error)) => return Ok((tokens, Some(error))),
+            Ok(_) => count += 1,
+            Err(Failure::Parse(error)) => return Ok((count, Some(error))),
             Err(Failure::Memory(error)) => return Err(error),
         }
     }
-    Ok((tokens, None))
+    Ok((count, None))
+}
+
+/// Writes the tokens of a text up to its lexical fault. `buffer` has an item for each of them, so
+/// the lexer never comes to the fault, which would take memory.
+fn write_tokens(alloc: Global, text: &str, buffer: &mut [CfgxToken])
+    requires { HasTokenCount text.now (length buffer.old) }
+    ensures { AreTokens text.now buffer.new }
+{
+    let offset = strip(text).offset;
+    let mut lexer = Lexer::new(alloc, text);
+    for i in 0..buffer.len() {
+        let Some(Ok(lexed)) = lexer.next() else {
+            unreachable!()
+        };
+        buffer[i] = c_token(&lexed, offset);
+    }
+}
+
+/// Fills `buffer` with the tokens of a text up to its lexical fault. Returns their number, and this
+/// fault if the text has one. A first pass over the text counts the tokens and finds the fault, and
+/// a second one writes them if there is room.
+///
+/// The error is that `alloc` refused memory.
+fn fill_tokens(
+    alloc: Global,
+    text: &str,
+    buffer: &mut [CfgxToken],
+) -> Result<(usize, Option<ParseError>), AllocError>
+    ensures ok { IfOk result (λ found. (tokens : List CfgxToken)
+        × HasTokens text.now tokens found.1 × Fills tokens buffer.old buffer.new found.0) }
+    ensures kept { OnErr result (buffer.new ≡ buffer.old) }
+{
+    let (count, error) = count_tokens(alloc, text)?;
+    if count <= buffer.len() {
+        write_tokens(alloc, text, &mut buffer[..count]);
+    }
+    Ok((count, error))
 }
 
 /// Lists the tokens of a text in the order of the text. Neither these nor their order has to make a
@@ -101,14 +137,15 @@ pub extern "C" fn cfgx_tokens(
     offset: &mut usize,
     fault: &mut CfgxFault,
 ) -> u32
-    ensures lists { result ≤ faulty → ListsTokens text.now result tokens.old tokens.new needed.new
-        fault.new }
+    ensures lists { IsOneOf result (done ∷ faulty ∷ []) → ListsTokens text.now result tokens.old
+        tokens.new needed.new fault.new }
     ensures not_utf8 { result ≡ not_utf8 → IsNoUtf8 text.now fault.new offset.new }
     ensures utf8 { result ≢ not_utf8 → IsUtf8 text.now }
     ensures offset { result ≢ not_utf8 → offset.new ≡ strip_offset text.now }
     ensures none { result ≡ out_of_memory → fault.new ≡ no_fault }
-    ensures kept { faulty < result → (tokens.new ≡ tokens.old) × (needed.new ≡ 0) }
-    ensures status { (result ≤ not_utf8) × (result ≢ wrong_use) }
+    ensures kept { IsOneOf result (out_of_memory ∷ not_utf8 ∷ [])
+        → (tokens.new ≡ tokens.old) × (needed.new ≡ 0) }
+    ensures status { IsOneOf result (done ∷ faulty ∷ not_utf8 ∷ out_of_memory ∷ []) }
 {
     *needed = 0;
     *offset = 0;
@@ -119,10 +156,10 @@ pub extern "C" fn cfgx_tokens(
     };
     let stripped = strip(text).offset;
     *offset = stripped;
-    let Ok((found, error)) = read_tokens(alloc, text) else {
+    let Ok((count, error)) = fill_tokens(alloc, text, tokens) else {
         return OUT_OF_MEMORY;
     };
-    *needed = fill(tokens, found.as_slice());
+    *needed = count;
     let Some(error) = error else {
         return DONE;
     };

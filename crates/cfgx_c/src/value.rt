@@ -4,8 +4,8 @@ ghost use Rattle.std.specs.Prelude.{◌≡◌, ◌≢◌, ◌≤◌, [], ◌∷�
 ghost use Rattle.std.specs.Str.{IsUtf8};
 ghost use Rattle.cfgx_syntax.specs.Stripping.{strip};
 ghost use Rattle.cfgx_c.specs.Faults.{Tells};
-ghost use Rattle.cfgx_c.specs.Status.{done, miscounted, not_utf8, wrong_use};
-ghost use Rattle.cfgx_c.specs.Value.{HasOtherCount, HasValueOver, byte_of_value};
+ghost use Rattle.cfgx_c.specs.Status.{IsOneOf, done, faulty, miscounted, not_utf8, out_of_memory};
+ghost use Rattle.cfgx_c.specs.Value.{HasOtherCount, HasValueByteOver, byte_of_value};
 
 use crate::bytes::{byte_of_value, eval_over_bytes};
 use crate::fault::CfgxFault;
@@ -30,12 +30,13 @@ pub extern "C" fn cfgx_value(
     value: &mut u8,
     fault: &mut CfgxFault,
 ) -> u32
-    ensures done { result ≡ done → HasValueOver (strip text.now) answers.now value.new }
+    ensures done { result ≡ done → HasValueByteOver (strip text.now) answers.now value.new }
     ensures read { Tells [] (text.now ∷ []) result fault.new }
     ensures utf8 { result ≢ not_utf8 → IsUtf8 text.now }
     ensures miscounted { result ≡ miscounted → HasOtherCount (strip text.now) answers.now }
     ensures unknown { result ≢ done → value.new ≡ byte_of_value None }
-    ensures status { (result ≤ miscounted) × (result ≢ wrong_use) }
+    ensures status { IsOneOf result
+        (done ∷ faulty ∷ not_utf8 ∷ out_of_memory ∷ miscounted ∷ []) }
 {
     *value = byte_of_value(None);
     *fault = CfgxFault::default();

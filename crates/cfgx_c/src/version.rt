@@ -7,10 +7,10 @@ ghost use Rattle.cfgx_c.specs.Version.{version};
 const LANGUAGE: u32 = 2;
 
 /// The major version of the calls.
-const MAJOR: u32 = 2;
+const MAJOR: u32 = 3;
 
 /// The minor version of the calls.
-const MINOR: u32 = 1;
+const MINOR: u32 = 0;
 
 /// Returns the version of the library: that of the language of conditions times 1,000,000, and the
 /// major version of the calls times 1,000, and their minor version.

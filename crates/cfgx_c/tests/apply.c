@@ -20,11 +20,12 @@ struct row {
 
 #define FALSE {CFGX_STEP_FALSE, 0}
 #define TRUE {CFGX_STEP_TRUE, 0}
-#define ASK {CFGX_STEP_ASK, 0}
+#define ASK(number) {CFGX_STEP_ASK, number}
 #define NOT {CFGX_STEP_NOT, 1}
-#define ALL(count) {CFGX_STEP_ALL, count}
-#define ANY(count) {CFGX_STEP_ANY, count}
-#define ASK_8 ASK, ASK, ASK, ASK, ASK, ASK, ASK, ASK
+#define ALL(number) {CFGX_STEP_ALL, number}
+#define ANY(number) {CFGX_STEP_ANY, number}
+#define ASK_4(number) ASK(number), ASK(number + 1), ASK(number + 2), ASK(number + 3)
+#define ASK_32 ASK_4(0), ASK_4(4), ASK_4(8), ASK_4(12), ASK_4(16), ASK_4(20), ASK_4(24), ASK_4(28)
 #define NOT_8 NOT, NOT, NOT, NOT, NOT, NOT, NOT, NOT
 #define VALUE(value) CFGX_STATUS_DONE, CFGX_VALUE_##value
 #define MISCOUNTED CFGX_STATUS_MISCOUNTED, 0
@@ -35,55 +36,92 @@ static const struct row rows[] = {
     {1, {FALSE}, TEXT(""), VALUE(FALSE)},
     {1, {ALL(0)}, TEXT(""), VALUE(TRUE)},
     {1, {ANY(0)}, TEXT(""), VALUE(FALSE)},
-    {1, {ASK}, TEXT("\0"), VALUE(FALSE)},
-    {1, {ASK}, TEXT("\1"), VALUE(TRUE)},
-    {1, {ASK}, TEXT("\2"), VALUE(UNKNOWN)},
-    {1, {ASK}, TEXT("\3"), VALUE(UNKNOWN)},
-    {2, {ASK, NOT}, TEXT("\x80"), VALUE(UNKNOWN)},
-    {2, {ASK, NOT}, TEXT("\xff"), VALUE(UNKNOWN)},
-    {3, {ASK, ASK, ALL(2)}, TEXT("\1\1"), VALUE(TRUE)},
-    {3, {ASK, ASK, ALL(2)}, TEXT("\xff\0"), VALUE(FALSE)},
-    {3, {ASK, ASK, ANY(2)}, TEXT("\xff\0"), VALUE(UNKNOWN)},
-    {3, {ASK, ASK, ANY(2)}, TEXT("\xff\1"), VALUE(TRUE)},
-    {4, {ASK, NOT, ASK, ALL(2)}, TEXT("\0\1"), VALUE(TRUE)},
-    {4, {ASK, NOT, ASK, ALL(2)}, TEXT("\1\0"), VALUE(FALSE)},
-    {33, {ASK_8, ASK_8, ASK_8, ASK_8, ALL(32)},
+    {1, {ASK(0)}, TEXT("\0"), VALUE(FALSE)},
+    {1, {ASK(0)}, TEXT("\1"), VALUE(TRUE)},
+    {1, {ASK(0)}, TEXT("\2"), VALUE(UNKNOWN)},
+    {1, {ASK(0)}, TEXT("\3"), VALUE(UNKNOWN)},
+    {2, {NOT, ASK(0)}, TEXT("\x80"), VALUE(UNKNOWN)},
+    {2, {NOT, ASK(0)}, TEXT("\xff"), VALUE(UNKNOWN)},
+    {3, {ALL(2), ASK(0), ASK(1)}, TEXT("\1\1"), VALUE(TRUE)},
+    {3, {ALL(2), ASK(0), ASK(1)}, TEXT("\xff\0"), VALUE(FALSE)},
+    {3, {ANY(2), ASK(0), ASK(1)}, TEXT("\xff\0"), VALUE(UNKNOWN)},
+    {3, {ANY(2), ASK(0), ASK(1)}, TEXT("\xff\1"), VALUE(TRUE)},
+    {4, {ALL(2), NOT, ASK(0), ASK(1)}, TEXT("\0\1"), VALUE(TRUE)},
+    {4, {ALL(2), NOT, ASK(0), ASK(1)}, TEXT("\1\0"), VALUE(FALSE)},
+    {33, {ALL(32), ASK_32},
      TEXT("\1\1\1\1\1\1\1\1\1\1\1\1\1\1\1\1\1\1\1\1\1\1\1\1\1\1\1\1\1\1\1\0"), VALUE(FALSE)},
-    {34, {ASK_8, ASK_8, ASK_8, ASK_8, ASK, ALL(33)},
+    {34, {ALL(33), ASK_32, ASK(32)},
      TEXT("\1\1\1\1\1\1\1\1\1\1\1\1\1\1\1\1\1\1\1\1\1\1\1\1\1\1\1\1\1\1\1\1\2"), VALUE(UNKNOWN)},
-    {42, {ASK, NOT_8, NOT_8, NOT_8, NOT_8, NOT_8, NOT}, TEXT("\0"), VALUE(TRUE)},
+    {42, {NOT_8, NOT_8, NOT_8, NOT_8, NOT_8, NOT, ASK(0)}, TEXT("\0"), VALUE(TRUE)},
 
-    {1, {ASK}, TEXT(""), MISCOUNTED},
-    {1, {ASK}, TEXT("\1\1"), MISCOUNTED},
+    {1, {ASK(0)}, TEXT(""), MISCOUNTED},
+    {1, {ASK(0)}, TEXT("\1\1"), MISCOUNTED},
     {1, {TRUE}, TEXT("\1"), MISCOUNTED},
-    {3, {ASK, ASK, ALL(2)}, TEXT("\1"), MISCOUNTED},
-    {1, {ASK},
+    {3, {ALL(2), ASK(0), ASK(1)}, TEXT("\1"), MISCOUNTED},
+    {1, {ASK(0)},
      TEXT("\1\1\1\1\1\1\1\1\1\1\1\1\1\1\1\1\1\1\1\1\1\1\1\1\1\1\1\1\1\1\1\1\1"), MISCOUNTED},
-    {1, {ASK},
+    {1, {ASK(0)},
      TEXT("\1\1\1\1\1\1\1\1\1\1\1\1\1\1\1\1\1\1\1\1\1\1\1\1\1\1\1\1\1\1\1\1\1\1"), MISCOUNTED},
-    {33, {ASK_8, ASK_8, ASK_8, ASK_8, ALL(32)},
+    {33, {ALL(32), ASK_32},
      TEXT("\1\1\1\1\1\1\1\1\1\1\1\1\1\1\1\1\1\1\1\1\1\1\1\1\1\1\1\1\1\1\1\1\1"), MISCOUNTED},
 
     {0, {TRUE}, TEXT(""), NO_VALUE},
     {2, {TRUE, TRUE}, TEXT(""), NO_VALUE},
-    {2, {ASK, ASK}, TEXT("\1\1"), NO_VALUE},
+    {2, {ASK(0), ASK(1)}, TEXT("\1\1"), NO_VALUE},
     {1, {NOT}, TEXT(""), NO_VALUE},
-    {2, {ASK, ALL(2)}, TEXT("\1"), NO_VALUE},
-    {2, {ASK, ALL(SIZE_MAX)}, TEXT("\1"), NO_VALUE},
-    {2, {TRUE, ANY(SIZE_MAX / 16 + 2)}, TEXT(""), NO_VALUE},
-    {2, {ASK, {CFGX_STEP_NOT, 0}}, TEXT("\1"), NO_VALUE},
-    {3, {ASK, ASK, {CFGX_STEP_NOT, 2}}, TEXT("\1\1"), NO_VALUE},
-    {1, {{CFGX_STEP_ASK, 1}}, TEXT("\1"), NO_VALUE},
+    {2, {ALL(2), ASK(0)}, TEXT("\1"), NO_VALUE},
+    {2, {ALL(SIZE_MAX), ASK(0)}, TEXT("\1"), NO_VALUE},
+    {2, {ANY(SIZE_MAX / 16 + 2), TRUE}, TEXT(""), NO_VALUE},
+    {2, {{CFGX_STEP_NOT, 0}, ASK(0)}, TEXT("\1"), NO_VALUE},
+    {3, {{CFGX_STEP_NOT, 2}, ASK(0), ASK(1)}, TEXT("\1\1"), NO_VALUE},
+    {1, {ASK(1)}, TEXT("\1"), NO_VALUE},
     {1, {{CFGX_STEP_TRUE, 1}}, TEXT(""), NO_VALUE},
     {1, {{CFGX_STEP_FALSE, SIZE_MAX}}, TEXT(""), NO_VALUE},
     {1, {{6, 0}}, TEXT(""), NO_VALUE},
-    {2, {ASK, {UINT32_MAX, 1}}, TEXT("\1"), NO_VALUE},
-    {2, {ASK, ASK}, TEXT("\1"), NO_VALUE},
-    /* In a condition, the functions of a list come before its predicates and literals. */
-    {4, {ASK, ASK, NOT, ALL(2)}, TEXT("\1\1"), VALUE(FALSE)},
-    {3, {TRUE, ALL(0), ANY(2)}, TEXT(""), VALUE(TRUE)},
-    {5, {ALL(0), TRUE, ALL(0), ASK, ANY(4)}, TEXT("\1"), VALUE(TRUE)},
-    {4, {ASK, ASK, NOT, ALL(2)}, TEXT("\1"), MISCOUNTED},
+    {2, {{UINT32_MAX, 1}, ASK(0)}, TEXT("\1"), NO_VALUE},
+    /* The number of answers comes first, also if the steps are not those of one tree. */
+    {2, {ASK(0), ASK(1)}, TEXT("\1"), MISCOUNTED},
+    /* In a condition, the predicates of the functions of a list have the lower numbers. */
+    {4, {ALL(2), ASK(0), NOT, ASK(1)}, TEXT("\1\1"), VALUE(FALSE)},
+    {3, {ANY(2), TRUE, ALL(0)}, TEXT(""), VALUE(TRUE)},
+    {5, {ANY(4), ALL(0), TRUE, ALL(0), ASK(0)}, TEXT("\1"), VALUE(TRUE)},
+    {4, {ALL(2), ASK(0), NOT, ASK(1)}, TEXT("\1"), MISCOUNTED},
+
+    /* A step takes the answer with its number, wherever it stands. */
+    {4, {ALL(2), NOT, ASK(1), ASK(0)}, TEXT("\1\0"), VALUE(TRUE)},
+    {4, {ALL(2), NOT, ASK(1), ASK(0)}, TEXT("\0\1"), VALUE(FALSE)},
+    {3, {ALL(2), ASK(1), ASK(1)}, TEXT("\0\1"), VALUE(TRUE)},
+    {3, {ANY(2), ASK(0), ASK(0)}, TEXT("\0\1"), VALUE(FALSE)},
+
+    /* An answer that is not there, also where another member decides the value. */
+    {2, {NOT, ASK(1)}, TEXT("\1"), NO_VALUE},
+    {3, {ALL(2), ASK(0), ASK(2)}, TEXT("\0\1"), NO_VALUE},
+    {3, {ANY(2), TRUE, ASK(SIZE_MAX)}, TEXT("\1"), NO_VALUE},
+
+    /* Too few members behind a function, too many, and two trees. */
+    {3, {ALL(3), ASK(0), ASK(1)}, TEXT("\1\1"), NO_VALUE},
+    {3, {ALL(2), NOT, ASK(0)}, TEXT("\1"), NO_VALUE},
+    {2, {ASK(0), NOT}, TEXT("\1"), NO_VALUE},
+    {3, {ALL(1), ASK(0), ASK(1)}, TEXT("\1\1"), NO_VALUE},
+    {3, {NOT, ASK(0), ASK(1)}, TEXT("\1\1"), NO_VALUE},
+    {2, {ALL(0), ALL(0)}, TEXT(""), NO_VALUE},
+
+    /* The steps of version 2 of the calls, in which a function stood behind its members: those of
+     * `all(a, b)`, `all(not(a), b)`, `all(a, any(b), c)` and `any(all())`. */
+    {3, {ASK(0), ASK(0), ALL(2)}, TEXT("\1\1"), NO_VALUE},
+    {4, {ASK(0), NOT, ASK(0), ALL(2)}, TEXT("\0\1"), NO_VALUE},
+    {5, {ASK(0), ANY(1), ASK(0), ASK(0), ALL(3)}, TEXT("\1\1\1"), NO_VALUE},
+    {2, {ALL(0), ANY(1)}, TEXT(""), NO_VALUE},
+
+    /* Whatever else is wrong, the number of answers comes first. */
+    {0, {TRUE}, TEXT("\1"), MISCOUNTED},
+    {2, {TRUE, TRUE}, TEXT("\1"), MISCOUNTED},
+    {1, {{6, 0}}, TEXT("\1"), MISCOUNTED},
+    {1, {{CFGX_STEP_FALSE, 1}}, TEXT("\1"), MISCOUNTED},
+    {1, {ASK(1)}, TEXT(""), MISCOUNTED},
+    {1, {ASK(1)}, TEXT("\1\1"), MISCOUNTED},
+    {2, {{CFGX_STEP_NOT, 2}, ASK(0)}, TEXT(""), MISCOUNTED},
+    {3, {ASK(0), ASK(0), ALL(2)}, TEXT("\1"), MISCOUNTED},
 };
 
 static struct text steps_of(const struct row *row)
@@ -131,42 +169,69 @@ static uint8_t function_value(uint32_t kind, const uint8_t *values, size_t count
     return *values == CFGX_VALUE_UNKNOWN ? CFGX_VALUE_UNKNOWN : !*values;
 }
 
-/* Returns whether the count suits the kind, and the stack has the values that the step pops. */
-static int can_run(struct cfgx_step step, size_t depth)
+/* Returns whether the number suits the kind, and the values that the step pops or pushes are
+ * there. */
+static int can_run(struct cfgx_step step, size_t depth, size_t answer_count)
 {
-    if (step.kind <= CFGX_STEP_ASK) {
-        return step.count == 0;
-    }
-    if (step.kind > CFGX_STEP_ANY || (step.kind == CFGX_STEP_NOT && step.count != 1)) {
+    switch (step.kind) {
+    case CFGX_STEP_FALSE:
+    case CFGX_STEP_TRUE:
+        return step.number == 0;
+    case CFGX_STEP_ASK:
+        return step.number < answer_count;
+    case CFGX_STEP_NOT:
+        return step.number == 1 && depth > 0;
+    case CFGX_STEP_ALL:
+    case CFGX_STEP_ANY:
+        return step.number <= depth;
+    default:
         return 0;
     }
-    return step.count <= depth;
+}
+
+/* Runs the steps of a row from the last to the first, as far as they can be run. Returns how many
+ * values are left, or 0 if not all steps were run. */
+static size_t run(const struct row *row, uint8_t *stack)
+{
+    size_t depth = 0;
+    for (size_t i = row->step_count; i-- > 0;) {
+        struct cfgx_step step = row->steps[i];
+        uint8_t value = (uint8_t)step.kind;
+        if (!can_run(step, depth, row->answers.length)) {
+            return 0;
+        }
+        if (step.kind == CFGX_STEP_ASK) {
+            value = (uint8_t)row->answers.bytes[step.number];
+            value = value <= CFGX_VALUE_TRUE ? value : CFGX_VALUE_UNKNOWN;
+        } else if (step.kind > CFGX_STEP_ASK) {
+            depth -= step.number;
+            value = function_value(step.kind, stack + depth, step.number);
+        }
+        stack[depth++] = value;
+    }
+    return depth;
+}
+
+/* Returns how many steps of a row ask. */
+static size_t count_asks(const struct row *row)
+{
+    size_t asks = 0;
+    for (size_t i = 0; i < row->step_count; i++) {
+        asks += row->steps[i].kind == CFGX_STEP_ASK;
+    }
+    return asks;
 }
 
 /* Sets the status and the value that the row has, by a stack of its own. */
 static void evaluate(struct row *row)
 {
     uint8_t stack[MOST];
-    size_t depth = 0, asked = 0;
-    row->status = CFGX_STATUS_NO_VALUE;
-    for (size_t i = 0; i < row->step_count; i++) {
-        struct cfgx_step step = row->steps[i];
-        uint8_t value = (uint8_t)step.kind;
-        if (!can_run(step, depth)) {
-            return;
-        }
-        depth -= step.count;
-        if (step.kind == CFGX_STEP_ASK) {
-            uint8_t answer = asked < row->answers.length ? (uint8_t)row->answers.bytes[asked] : 0;
-            value = answer <= CFGX_VALUE_TRUE ? answer : CFGX_VALUE_UNKNOWN;
-            asked++;
-        } else if (step.kind > CFGX_STEP_ASK) {
-            value = function_value(step.kind, stack + depth, step.count);
-        }
-        stack[depth++] = value;
-    }
-    if (depth == 1) {
-        row->status = asked == row->answers.length ? CFGX_STATUS_DONE : CFGX_STATUS_MISCOUNTED;
+    if (count_asks(row) != row->answers.length) {
+        row->status = CFGX_STATUS_MISCOUNTED;
+    } else if (run(row, stack) != 1) {
+        row->status = CFGX_STATUS_NO_VALUE;
+    } else {
+        row->status = CFGX_STATUS_DONE;
         row->value = stack[0];
     }
 }
@@ -177,7 +242,7 @@ static void expect_growths(const struct row *row, size_t growths)
 {
     if (row->step_count <= INLINE && row->answers.length <= INLINE) {
         expect_number("the number of growths", growths, 0);
-    } else if (row->status != CFGX_STATUS_NO_VALUE) {
+    } else if (row->status == CFGX_STATUS_DONE) {
         expect_number("whether a growth was counted", growths > 0, 1);
     }
 }
@@ -219,12 +284,31 @@ static struct cfgx_step random_step(size_t depth)
 {
     struct cfgx_step step = {(uint32_t)random_below(7), 0};
     if (step.kind > CFGX_STEP_ASK) {
-        step.count = step.kind == CFGX_STEP_NOT ? 1 : random_below(depth + 1);
+        step.number = step.kind == CFGX_STEP_NOT ? 1 : random_below(depth + 1);
     }
     if (random_below(24) == 0) {
-        step.count = random_below(2) ? random_below(4) : SIZE_MAX - random_below(3);
+        step.number = random_below(2) ? random_below(4) : SIZE_MAX - random_below(3);
     }
     return step;
+}
+
+/* Sets the steps of a row at random, from the last to the first. Most of those that ask get the
+ * number of an answer, if there are as many answers as asks. */
+static void set_steps(struct row *row)
+{
+    size_t depth = 0, asks;
+    for (size_t i = row->step_count; i-- > 0;) {
+        struct cfgx_step step = random_step(depth);
+        size_t popped = step.kind > CFGX_STEP_ASK ? step.number : 0;
+        depth = popped > depth ? 1 : depth - popped + 1;
+        row->steps[i] = step;
+    }
+    asks = count_asks(row);
+    for (size_t i = 0; i < row->step_count; i++) {
+        if (row->steps[i].kind == CFGX_STEP_ASK && random_below(24) > 0) {
+            row->steps[i].number = random_below(asks);
+        }
+    }
 }
 
 /* Tests lists of steps at random, a few of them long. */
@@ -238,13 +322,8 @@ static void test_random(size_t lists)
     for (size_t list = 0; list < lists; list++) {
         size_t most = random_below(16) ? 8 : MOST;
         struct row row = {1 + random_below(most), {TRUE}, {answers, 0}, 0, 0};
-        size_t depth = 0, asked = 0;
-        for (size_t i = 0; i < row.step_count; i++) {
-            row.steps[i] = random_step(depth);
-            asked += row.steps[i].kind == CFGX_STEP_ASK;
-            depth = row.steps[i].count > depth ? 1 : depth - row.steps[i].count + 1;
-        }
-        row.answers.length = random_below(8) ? asked : random_below(MOST);
+        set_steps(&row);
+        row.answers.length = random_below(8) ? count_asks(&row) : random_below(MOST);
         values += test_computed(&row);
     }
     struct text name = TEXT("lists at random");

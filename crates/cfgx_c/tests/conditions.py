@@ -104,26 +104,18 @@ class Condition:
                 at += 1
         return members, at + 1
 
-    def walk(self):
-        """Yields the members of the tree in the order of asking, each function behind its own."""
-        yield from walk(self.tree)
-
     def predicates(self):
         """Returns the predicates in the order in which they are asked."""
-        return [member for member in self.walk() if is_predicate(member)]
+        return list(asked(self.tree))
 
     def steps(self):
-        """Returns the kind and the count of each step."""
-        return [step_of(member) for member in self.walk()]
+        """Returns the kind and the number of each step."""
+        numbers = {predicate: number for number, predicate in enumerate(self.predicates())}
+        return [step_of(member, numbers) for member in nodes(self.tree)]
 
     def value(self, answers):
         """Returns the value over answers, each of which is True, False, or None for unknown."""
-        stack, answers = [], iter(answers)
-        for kind, count in self.steps():
-            popped = stack[len(stack) - count:]
-            del stack[len(stack) - count:]
-            stack.append(next(answers) if kind == ASK else joined(kind, popped))
-        return stack[0]
+        return value_of(self.tree, dict(zip(self.predicates(), answers)))
 
 
 def is_function(member):
@@ -136,19 +128,48 @@ def is_predicate(member):
     return isinstance(member, tuple) and len(member) == 8
 
 
-def walk(member):
-    """Yields the members below a member in the order of asking, and then the member."""
+def asked(member):
+    """Yields the predicates of a member in the order of asking: first those of functions."""
     if is_function(member):
         for inner in sorted(member[1], key=lambda inner: not is_function(inner)):
-            yield from walk(inner)
+            yield from asked(inner)
+    elif is_predicate(member):
+        yield member
+
+
+def nodes(member):
+    """Yields a member, and then those below it, in the order of the text."""
     yield member
+    if is_function(member):
+        for inner in member[1]:
+            yield from nodes(inner)
 
 
-def step_of(member):
-    """Returns the kind and the count of the step of a member."""
+def step_of(member, numbers):
+    """Returns the kind and the number of the step of a member. `numbers` has those of the
+    predicates, each of which has another span."""
     if is_function(member):
         return member[0], len(member[1])
-    return (ASK if is_predicate(member) else member), 0
+    return (ASK, numbers[member]) if is_predicate(member) else (member, 0)
+
+
+def trees_of(steps, predicates):
+    """Returns the trees of steps, each of which is a kind and a number."""
+    stack = []
+    for kind, number in reversed(steps):
+        if kind in FUNCTIONS.values():
+            stack.append((kind, [stack.pop() for _ in range(number)]))
+        else:
+            stack.append(predicates[number] if kind == ASK else kind)
+    return stack
+
+
+def value_of(member, answers):
+    """Returns the value of a member over the answers to its predicates."""
+    if is_predicate(member):
+        return answers[member]
+    kind, inner = member if is_function(member) else (member, [])
+    return joined(kind, [value_of(one, answers) for one in inner])
 
 
 def joined(kind, values):

@@ -47,6 +47,29 @@ static uint32_t value(const struct row *row, struct text text)
                       row->answers.length, bytes, NULL);
 }
 
+static uint32_t tokens(const struct row *row, struct text text)
+{
+    static struct cfgx_token tokens[ROOM];
+    size_t needed, offset;
+    (void)row;
+    return cfgx_tokens(text.bytes, text.length, tokens, ROOM, &needed, &offset, NULL);
+}
+
+static uint32_t count_tokens(const struct row *row, struct text text)
+{
+    size_t needed, offset;
+    (void)row;
+    return cfgx_tokens(text.bytes, text.length, NULL, 0, &needed, &offset, NULL);
+}
+
+static uint32_t decide_without_room(const struct row *row, struct text text)
+{
+    size_t needed;
+    uint8_t found;
+    return cfgx_decide(text.bytes, text.length, (const uint8_t *)row->answers.bytes,
+                       row->answers.length, NULL, 0, &needed, &found, NULL);
+}
+
 static uint32_t decide(const struct row *row, struct text text)
 {
     size_t needed;
@@ -64,11 +87,18 @@ static const struct row rows[] = {
     {"compile unix", UNIX, compile, TEXT("\2"), 0},
     {"value unix", UNIX, value, TEXT("\2"), 0},
     {"decide unix, known", UNIX, decide, TEXT("\1"), 0},
+    {"decide unix, unknown", UNIX, decide, TEXT("\2"), 0},
+    {"decide unix, unknown, without room", UNIX, decide_without_room, TEXT("\2"), 0},
+    {"tokens unix", UNIX, tokens, TEXT("\2"), 0},
+    {"count the tokens of unix", UNIX, count_tokens, TEXT("\2"), 0},
     {"check both", BOTH, check, TEXT("\2\2"), 3},
     {"predicates both", BOTH, list, TEXT("\2\2"), 3},
     {"compile both", BOTH, compile, TEXT("\2\2"), 3},
     {"value both", BOTH, value, TEXT("\2\2"), 3},
     {"decide both", BOTH, decide, TEXT("\2\2"), 3},
+    {"decide both without room", BOTH, decide_without_room, TEXT("\2\2"), 3},
+    {"tokens both", BOTH, tokens, TEXT("\2\2"), 0},
+    {"count the tokens of both", BOTH, count_tokens, TEXT("\2\2"), 0},
 };
 
 static void call(const void *item, size_t room, uint32_t status)

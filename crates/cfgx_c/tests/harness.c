@@ -185,7 +185,7 @@ static void print_steps(const void *items, size_t count)
 {
     const struct cfgx_step *step = items;
     for (size_t i = 0; i < count; i++) {
-        printf("{kind %u, count %zu} ", (unsigned)step[i].kind, step[i].count);
+        printf("{kind %u, number %zu} ", (unsigned)step[i].kind, step[i].number);
     }
 }
 
@@ -193,7 +193,7 @@ static void print_steps(const void *items, size_t count)
 static int is_same_step(const void *found, const void *wanted)
 {
     const struct cfgx_step *one = found, *other = wanted;
-    return one->kind == other->kind && one->count == other->count;
+    return one->kind == other->kind && one->number == other->number;
 }
 
 static void print_tokens(const void *items, size_t count)

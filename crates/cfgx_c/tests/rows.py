@@ -12,13 +12,11 @@ import random
 import re
 import sys
 
+from conditions import Condition, stripped, tokens_of, trees_of
+from library import TOKENS, Cfgx, CfgxError
+
 FOLDER = os.path.dirname(os.path.abspath(__file__))
 DATA = os.path.join(FOLDER, "..", "..", "cfgx_vectors", "data")
-sys.path.insert(0, os.path.join(FOLDER, "..", "examples"))
-
-from cfgx import TOKENS, Cfgx, CfgxError  # noqa: E402
-from conditions import Condition, stripped, tokens_of  # noqa: E402
-
 # The files in which each check that is used here has a table.
 TABLES = {
     "fault": {"faults.txt", "neighbours.txt", "predicates.txt", "tokens.txt"},
@@ -228,12 +226,13 @@ def check_decide(cfgx):
 
 
 def check_compile(cfgx):
-    """Compares the steps and the predicates."""
+    """Compares the steps, the predicates, and the tree that both have."""
     for text in accepted_texts():
-        steps, predicates = cfgx.compile(text)
+        steps, predicates = ([fields_of(one) for one in found] for found in cfgx.compile(text))
         condition = Condition(text)
-        yield text, [fields_of(step) for step in steps], condition.steps()
-        yield text, [fields_of(predicate) for predicate in predicates], condition.predicates()
+        yield text, steps, condition.steps()
+        yield text, predicates, condition.predicates()
+        yield text, trees_of(steps, predicates), [condition.tree]
 
 
 def check_apply(cfgx):

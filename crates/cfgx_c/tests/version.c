@@ -26,7 +26,7 @@ OFFSET(cfgx_predicate, value_end, 48);
 
 SIZE(cfgx_step, 16);
 OFFSET(cfgx_step, kind, 0);
-OFFSET(cfgx_step, count, 8);
+OFFSET(cfgx_step, number, 8);
 
 SIZE(cfgx_token, 24);
 OFFSET(cfgx_token, kind, 0);
@@ -37,7 +37,7 @@ int main(void)
 {
     struct text name = TEXT("CFGX_VERSION");
     begin_row(name);
-    expect_number("the version of the header", CFGX_VERSION, 2002001);
+    expect_number("the version of the header", CFGX_VERSION, 2003000);
     expect_number("the version of the library", cfgx_version(), CFGX_VERSION);
     return finish("cfgx_version", 0);
 }

@@ -7,6 +7,6 @@ use Rattle.cfgx_c.specs.declared.steps.CfgxStep.{CfgxStep}
 
 -- the error says why the steps have no value over the answers
 abbrev pub DoNotApply : List CfgxStep → List ℕ → StepsError → Type 0
-DoNotApply seen answers error.NoValue = HaveNoCValue seen
 DoNotApply seen answers error.Miscounted = AreCMiscounted seen answers
+DoNotApply seen answers error.NoValue = HaveNoCValue seen answers
 DoNotApply seen answers (error.Memory refused) = (33 < length seen) ⊎ (33 < length answers)

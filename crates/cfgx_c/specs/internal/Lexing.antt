@@ -1,5 +1,5 @@
 -- The tokens that a lexer yields.
-use Rattle.std.specs.Prelude.{◌≡◌, ℕ, List, Option, map, option_map}
+use Rattle.std.specs.Prelude.{◌≡◌, ℕ, List, Option, length, map, option_map}
 use Rattle.std.specs.declared.alloc.Global.{Global}
 use Rattle.cfgx_syntax.specs.Items.{AreItems, Ending, Item, lexical}
 use Rattle.cfgx_syntax.specs.Stripping.{strip, strip_offset}
@@ -16,3 +16,17 @@ pub record HasTokens (text : List ℕ) (tokens : List CfgxToken) (error : Option
   pub are_items : AreItems (strip text) items ending
   pub shown : tokens ≡ map (c_token (strip_offset text)) items
   pub ends : lexical (strip text) ending ≡ option_map fault_at error
+
+-- the number of tokens before the text ends, or before its lexical fault
+pub record HasTokenCount (text : List ℕ) (count : ℕ) : Type 0 where
+  pub items : List Item
+  pub ending : Ending
+  pub are_items : AreItems (strip text) items ending
+  pub counted : count ≡ length items
+
+-- the tokens are those of the stripped text
+pub record AreTokens (text : List ℕ) (tokens : List CfgxToken) : Type 0 where
+  pub items : List Item
+  pub ending : Ending
+  pub are_items : AreItems (strip text) items ending
+  pub shown : tokens ≡ map (c_token (strip_offset text)) items

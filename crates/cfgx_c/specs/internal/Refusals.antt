@@ -1,5 +1,5 @@
 -- Why texts and facts cannot be read.
-use Rattle.std.specs.Prelude.{◌≡◌, ◌≢◌, ◌⊎◌, ◌+◌, ◌≤◌, ℕ, List, [], ◌∷◌, map}
+use Rattle.std.specs.Prelude.{◌≡◌, ◌≢◌, ◌⊎◌, ◌+◌, ℕ, List, [], ◌∷◌, map}
 use Rattle.std.specs.{Borrow.Bor, Str.IsUtf8}
 use Rattle.cfgx_syntax.specs.Error.{Fault, cause_of}
 use Rattle.cfgx_syntax.specs.Stripping.{strip_offset}
@@ -7,8 +7,7 @@ use Rattle.cfgx_syntax.specs.declared.error.Failure.{Failure}
 use Rattle.cfgx_syntax.specs.declared.error.Failure.TheVariants as failure
 use Rattle.cfgx_syntax.specs.declared.error.ParseError.{ParseError}
 use Rattle.cfgx_c.specs.Faults.{IsFirst, Tells, c_fault, no_fault}
-use Rattle.cfgx_c.specs.Status.{bad_ends, done, faulty, faulty_fact, miscounted, no_value, not_utf8}
-use Rattle.cfgx_c.specs.Status.{out_of_memory, too_large, wrong_use}
+use Rattle.cfgx_c.specs.Status.{IsOneOf, faulty, faulty_fact, not_utf8, out_of_memory}
 use Rattle.cfgx_c.specs.declared.fault.CfgxFault.{CfgxFault}
 use Rattle.cfgx_c.specs.declared.fault.Refusal.{Refusal}
 
@@ -52,17 +51,17 @@ abbrev pub IsFirstFrom : ℕ → (List ℕ → Type 0) → (List ℕ → CfgxFau
 IsFirstFrom begin Good Has items fault =
     (index : ℕ) × (fault.item ≡ begin + index) × IsFirst Good Has items index fault
 
+-- the statuses of a call that cannot read a text
+abbrev pub text_statuses : List ℕ
+text_statuses = faulty ∷ not_utf8 ∷ out_of_memory ∷ []
+
 -- the refusal of a call that cannot read its facts or its texts
 pub record Refuses (facts texts : List (List ℕ)) (refusal : Refusal) : Type 0 where
   pub tells : Tells facts texts refusal.status refusal.fault
-  pub fails : (refusal.status ≤ faulty_fact) × (refusal.status ≢ done)
-      × (refusal.status ≢ wrong_use) × (refusal.status ≢ miscounted)
-      × (refusal.status ≢ bad_ends) × (refusal.status ≢ no_value)
-      × (refusal.status ≢ too_large)
+  pub fails : IsOneOf refusal.status (faulty_fact ∷ text_statuses)
 
--- the refusal of a call that cannot read its text, whose statuses are at most `most`
-pub record RefusesText (text : List ℕ) (most : ℕ) (refusal : Refusal) : Type 0 where
+-- the refusal of a call that cannot read its text, with one of these statuses
+pub record RefusesText (text : List ℕ) (statuses : List ℕ) (refusal : Refusal) : Type 0 where
   pub tells : Tells [] (text ∷ []) refusal.status refusal.fault
   pub utf8 : refusal.status ≢ not_utf8 → IsUtf8 text
-  pub fails : (refusal.status ≢ done) × (refusal.status ≢ wrong_use)
-      × (refusal.status ≤ most)
+  pub fails : IsOneOf refusal.status statuses

@@ -1,7 +1,7 @@
 -- The facts are read first, and then the text.
 use Rattle.std.proofs.lemmas.Result.{err_from_is_err_and}
 use Rattle.cfgx_c.specs.Ends.{parts}
-use Rattle.cfgx_c.proofs.AnswerLemmas.{AnswersBy-read}
+use Rattle.cfgx_c.proofs.AnswerLemmas.{AnswersOfFacts-read}
 use Rattle.cfgx_c.proofs.RefusalLemmas.{Refuses-read, Refuses-text, all_facts}
 use Rattle.cfgx_c.proofs.answers.find_answers.Goals as goal
 
@@ -42,7 +42,7 @@ returns-clause-ok c =
     let condition = rw text.0 at c.in_ok-condition.ensures.ok in (
       all_facts _ facts.1 read.0,
       (text.1, condition.1),
-      AnswersBy-read c.args.text.now _ (parts c.args.fact_ends.now c.args.facts.now) _
+      AnswersOfFacts-read c.args.text.now _ (parts c.args.fact_ends.now c.args.facts.now) _
           c.args.otherwise c.in_ok-answers_to.field-0.items condition.0 read.1
           c.in_ok-answers_to.ensures,
     )

@@ -1,5 +1,5 @@
 use Rattle.cfgx_c.specs.Value.{byte_of_value}
-use Rattle.cfgx_c.proofs.BufferLemmas.{written_more}
+use Rattle.cfg_expr.proofs.Written.{written_more}
 use Rattle.cfgx_c.proofs.bytes.write_values.Goals as goal
 
 -- one byte more

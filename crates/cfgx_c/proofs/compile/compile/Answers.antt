@@ -1,8 +1,9 @@
 -- The steps and the predicates are those of the text's one tree.
-use Rattle.std.proofs.Common.{◌≡◌, ◌∙◌, ap, arith, length, map, sym}
+use Rattle.std.proofs.Common.{◌≡◌, ◌≤◌, ◌∙◌, ap, arith, length, map, sym}
 use Rattle.std.proofs.lemmas.Grind.{common_steps}
 use Rattle.std.proofs.lemmas.List.{length-map}
 use Rattle.cfgx_grammar.proofs.Answering.{only_tree}
+use Rattle.cfgx_syntax.proofs.Wrapping.{strip-stands}
 use Rattle.cfgx_syntax.specs.Stripping.{strip_offset}
 use Rattle.cfg_expr.specs.Steps.{steps_of}
 use Rattle.cfgx_c.specs.{Predicates.c_predicate, Steps.c_step}
@@ -22,6 +23,9 @@ returns-then-step_count-steps-clause-ok c =
     let predicates = c.located_predicates-located.result in
     let located = rw (is, text.0) at c.located_predicates-located.ensures in
     let counted = rw (is, text.0) at c.step_count-step_count.ensures.steps in
+    let few : c.step_count-step_count.result ≤ length c.args.text.now =
+    let (stands, within) = strip-stands c.args.text.now in
+    omega (arith, rw (is, text.0) at c.step_count-step_count.ensures.few, within) in
     let show = c_predicate (strip_offset c.args.text.now) in
     let steps = map c_step (steps_of counted.0.tree) in
     let many : c.step_count-step_count.result ≡ length steps =
@@ -35,6 +39,7 @@ returns-then-step_count-steps-clause-ok c =
         lists = ListsPredicates-located c.args.text.now predicates located;
         fills = let either = c.then-step_count-steps.either in grind (arith, common_steps);
         steps_needed_is = counted.1;
+        few = few;
         predicates_needed_is = count;
       },
     )
@@ -47,7 +52,10 @@ returns-clause-ok c =
     let predicates = c.located_predicates-located.result in
     let located = rw (is, text.0) at c.located_predicates-located.ensures in
     let counted = rw (is, text.0) at c.step_count-step_count.ensures.steps in
-    let wrote = rw (is, text.0) at c.in_ok-write_steps.ensures.steps in
+    let few : c.step_count-step_count.result ≤ length c.args.text.now =
+    let (stands, within) = strip-stands c.args.text.now in
+    omega (arith, rw (is, text.0) at c.step_count-step_count.ensures.few, within) in
+    let wrote = rw (is, text.0) at c.write_steps.ensures in
     let show = c_predicate (strip_offset c.args.text.now) in
     let steps = map c_step (steps_of wrote.0.tree) in
     let same = counted.1 ∙ ap (λ tree. length (steps_of tree))
@@ -66,6 +74,7 @@ returns-clause-ok c =
             (map show predicates) c.args.predicates.now (omega (arith, many))
             (omega (arith, count)));
         steps_needed_is = same;
+        few = few;
         predicates_needed_is = count;
       },
     )

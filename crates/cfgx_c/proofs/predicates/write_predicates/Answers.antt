@@ -5,7 +5,7 @@ use Rattle.std.proofs.Common.{drop, length, map}
 use Rattle.std.proofs.lemmas.List.{length-append}
 use Rattle.cfgx_syntax.specs.Stripping.{strip}
 use Rattle.cfgx_c.specs.Predicates.{c_predicate}
-use Rattle.cfgx_c.proofs.BufferLemmas.{written_next}
+use Rattle.cfg_expr.proofs.Written.{written_next}
 use Rattle.cfgx_c.proofs.Described.{located_each}
 use Rattle.cfgx_c.proofs.predicates.write_predicates.Goals as goal
 

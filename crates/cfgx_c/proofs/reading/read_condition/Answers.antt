@@ -4,4 +4,4 @@ use Rattle.cfgx_c.proofs.reading.read_condition.Goals as goal
 
 pub returns-in-Err-clause-err : goal.returns-in-Err-clause-err
 returns-in-Err-clause-err c = rw c.text_refusal.ensures
-    (RefusesText-failure c.args.text.now c.in-Err.failure c.utf8.text c.in-Err.ensures)
+    (RefusesText-failure c.args.text.now c.in-Err.failure c.utf8.text c.in-Err.ensures.answers)
