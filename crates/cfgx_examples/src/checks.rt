@@ -23,7 +23,7 @@ const TABLES: &[TableToCheck<'static>] = &[
     ("terms and questions", TERMS, 12),
     ("values in logics without laws", JOINED, 14),
     ("steps and their values", STEPS, 9),
-    ("values of steps", VALUES_OF_STEPS, 20),
+    ("values of steps", VALUES_OF_STEPS, 41),
     ("facts that are read", READ, 31),
     ("answers of facts", ANSWERED, 13),
     ("targets that are asked", ASKED, 33),

@@ -2,7 +2,7 @@
 use crate::alike::{ALIKE, has_values};
 use crate::asking::ASKED;
 use crate::deep::{ACCEPTED, FAR, FAULTS, READ, has_fault, has_predicates, reads_texts};
-use crate::facts::{FOUND, finds_each};
+use crate::facts::{COLLIDING, FOUND, finds_colliding, finds_each};
 use crate::many::{LARGE, MEMBERS, decides, first_member_decides};
 use cfgx_testing::asking::asks_target;
 use cfgx_testing::rows::{TableToCheck, check_tables};
@@ -19,6 +19,7 @@ const TABLES: &[TableToCheck<'static>] = &[
     ("targets that are asked", ASKED, 10),
     ("lanes of members", MEMBERS, 1),
     ("facts", FOUND, 4),
+    ("facts that collide", COLLIDING, 2),
 ];
 
 // Returns whether the row passes the check with this name, or `None` if there is no such check.
@@ -33,6 +34,7 @@ fn row_passes(alloc: Global, name: &str, row: &[String]) -> Option<bool> {
         "targets that are asked" => Some(asks_target(alloc, row)),
         "lanes of members" => Some(first_member_decides(alloc, row)),
         "facts" => Some(finds_each(alloc, row)),
+        "facts that collide" => Some(finds_colliding(alloc, row)),
         _ => None,
     }
 }

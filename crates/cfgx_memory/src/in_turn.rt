@@ -7,6 +7,7 @@ mod audits;
 mod calls;
 mod decisions;
 pub(crate) mod expressions;
+pub(crate) mod facts;
 mod fields;
 mod inputs;
 pub(crate) mod lexing;
@@ -101,9 +102,9 @@ fn combine(outcomes: &[Outcome]) -> Outcome {
 const TABLES: &[TableToCheck<'_>] = &[
     ("each growth of a call on a text", texts::TEXTS, 49),
     ("each growth of each run", runs::RUNS, 32),
-    ("each growth of each other call", calls::CALLS, 36),
-    ("growths of decisions", decisions::DECISIONS, 8),
-    ("growths of a reader", reading::READ, 10),
+    ("each growth of each other call", calls::CALLS, 43),
+    ("memory of decisions", decisions::DECISIONS, 8),
+    ("memory of a reader", reading::READ, 10),
     ("index of a refused growth", audits::AUDITED, 3),
 ];
 
@@ -113,8 +114,8 @@ fn row_passes(global: Global, name: &str, row: &[String]) -> Option<bool> {
         "each growth of a call on a text" => Some(texts::row_passes(global, row)),
         "each growth of each run" => Some(runs::row_passes(global, row)),
         "each growth of each other call" => Some(calls::row_passes(global, row)),
-        "growths of decisions" => Some(decisions::row_passes(global, row)),
-        "growths of a reader" => Some(reading::row_passes(global, row)),
+        "memory of decisions" => Some(decisions::row_passes(global, row)),
+        "memory of a reader" => Some(reading::row_passes(global, row)),
         "index of a refused growth" => Some(audits::row_passes(global, row)),
         _ => None,
     }

@@ -43,11 +43,11 @@ fn is_made_and_ordered<T: Ord + Hash>(
 }
 
 const TABLES: &[TableToCheck<'_>] = &[
-    ("conditions take no memory", conditions::CONDITIONS, 23),
+    ("conditions take no memory", conditions::CONDITIONS, 43),
     ("faults take no memory", faults::FAULTS, 3),
     ("lists take no memory", lists::LISTS, 10),
     ("tables of targets take no memory", tables::TABLES, 5),
-    ("other values take no memory", values::VALUES, 26),
+    ("other values take no memory", values::VALUES, 27),
 ];
 
 // Returns the field of a row that has only one. Returns an empty text for any other row.

@@ -102,7 +102,7 @@ fn condition_decides(
     if condition.predicates().left() != answers.len() {
         return Ok(false);
     }
-    let mut decision = Decision::default();
+    let mut decision = Decision::Known(false);
     condition.decide(alloc, answers, &mut decision)?;
     let is_first_right = decision_matches(&decision, row);
     condition.decide(alloc, answers, &mut decision)?;

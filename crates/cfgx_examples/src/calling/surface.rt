@@ -1,17 +1,22 @@
 //! Calls that stand in no example of the pages, written as in Rust, without types that Rust would
 //! infer.
 use super::streams::Kept;
-use cfg_expr::Decision;
+use cfg_expr::error::laws::{expected_terms_have_a_number, faults_lie_in_their_text};
 use cfg_expr::error::{Failure, Reason};
 use cfg_expr::expr::Logic;
 use cfg_expr::expr::laws::{homomorphisms_keep_values, lanes_are_homomorphisms};
 use cfg_expr::expr::lexer::Lexer;
+use cfg_expr::expr::lexer::laws::{lexical_faults_lie_in_their_text, tokens_lie_in_order};
 use cfg_expr::expr::logic::Kleene64;
 use cfg_expr::expr::logic::laws::are_disjoint;
 use cfg_expr::targets::{Endian, Families, Family, HasAtomic, HasAtomicFailure, HasAtomics, Os};
 use cfgx_engine::engine::laws::{has_an_output, has_one_output};
 use cfgx_engine::engine::streams::write_whole;
 use cfgx_fields::reading::{read_endian, read_has_atomic, read_u8, read_u16};
+use cfgx_parser::kinds::laws::kinds_have_different_numbers;
+use cfgx_syntax::error::laws::{
+    lists_have_different_numbers, numbers_name_the_reason, reasons_have_different_numbers,
+};
 use cfgx_syntax::stripping::strip;
 use cfgx_testing::checking::{check_all, is_ok_true, value_equals};
 use std::alloc::{AllocError, Global};
@@ -93,10 +98,6 @@ fn system_is_copied(alloc: Global) -> Result<bool, AllocError> {
     Ok(is_linux(&os) && is_ok_true(value_equals(os.try_clone(alloc), &os)))
 }
 
-fn is_known_false(decision: &Decision) -> bool {
-    matches!(decision, Decision::Known(false))
-}
-
 #[test]
 fn values_are_read_and_made(rt: HostRuntime) -> Result<(), &'static str> {
     let alloc = rt.alloc();
@@ -117,7 +118,6 @@ fn values_are_read_and_made(rt: HostRuntime) -> Result<(), &'static str> {
         ("a copy", is_ok_true(system_is_copied(alloc))),
         ("a stripped text", text_is_stripped(alloc)),
         ("a fault", fault_is_made(alloc)),
-        ("a decision", is_known_false(&Decision::default())),
     ])
 }
 
@@ -125,6 +125,14 @@ fn values_are_read_and_made(rt: HostRuntime) -> Result<(), &'static str> {
 fn call_laws() {
     homomorphisms_keep_values::<bool, Option<bool>>();
     lanes_are_homomorphisms();
+    tokens_lie_in_order();
+    lexical_faults_lie_in_their_text();
+    faults_lie_in_their_text();
+    expected_terms_have_a_number();
+    reasons_have_different_numbers();
+    lists_have_different_numbers();
+    numbers_name_the_reason();
+    kinds_have_different_numbers();
     has_an_output();
     has_one_output();
 }

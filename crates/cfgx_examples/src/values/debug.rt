@@ -75,6 +75,11 @@ fn condition_is_shown(alloc: Global) -> Result<bool, Failure> {
                 alloc,
                 &expression.condition(),
                 &["Condition", "all(unix, a)"],
+            )
+            && shows(
+                alloc,
+                &expression.condition().located_predicates(),
+                &["LocatedPredicates"],
             ),
     )
 }

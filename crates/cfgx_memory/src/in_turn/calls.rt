@@ -1,46 +1,49 @@
 //! Values that are made and copied, and inputs that are read.
+use super::facts::check_facts;
 use super::fields::{check_field, check_plain_predicate, check_predicate};
 use super::inputs::{check_input, stops_at_failed_read};
+use super::lexing::check_copied_fault;
 use super::lists::{check_families, check_long_list, check_widths};
-use super::rows::check_builtin_row;
+use super::rows::{check_builtin, check_builtin_row};
 use super::widths::check_width_error;
 use super::{Call, Outcome, refuse_each_growth};
 use cfg_expr::memory::SmallAllocator;
+use cfgx_parser::unaskable::is_unaskable;
 use cfgx_testing::checking::is_ok_true;
 use cfgx_testing::heap::{empty_heap, has_every_block};
 use std::alloc::Global;
 
-/// The kind of a value and its name, the number of growths, and texts. The value is made from each
-/// text, or prints it. Each growth is refused in turn. The number can be `some`, for at least one,
-/// or `once`: then the call is made once, with no growth refused.
+/// The kind of a value and its name, whether the call takes memory, and texts. The value is made
+/// from each text, or prints it. With `some` the call takes memory, and each growth is refused in
+/// turn; with `none` it takes none. With `once` it is made once, with no growth refused.
 pub(super) const CALLS: &str = r#"
-// The owned text and its copy take a growth each, and the borrowed text and its copy none.
-field triple | 2 | \u{e9} | a text of seventeen | ~v~100000~
-field abi | 2 | \u{e9} | a text of seventeen | ~v~100000~
-field arch | 2 | \u{e9} | a text of seventeen | ~v~100000~
-field vendor | 2 | \u{e9} | a text of seventeen | ~v~100000~
-field os | 2 | \u{e9} | a text of seventeen | ~v~100000~
-field family | 2 | \u{e9} | a text of seventeen | ~v~100000~
-field env | 2 | \u{e9} | a text of seventeen | ~v~100000~
-field panic | 2 | \u{e9} | a text of seventeen | ~v~100000~
-predicate abi | 2 | \u{e9} | a text of seventeen | ~v~100000~
-predicate arch | 2 | \u{e9} | a text of seventeen | ~v~100000~
-predicate vendor | 2 | \u{e9} | a text of seventeen | ~v~100000~
-predicate os | 2 | \u{e9} | a text of seventeen | ~v~100000~
-predicate family | 2 | \u{e9} | a text of seventeen | ~v~100000~
-predicate env | 2 | \u{e9} | a text of seventeen | ~v~100000~
-predicate panic | 2 | \u{e9} | a text of seventeen | ~v~100000~
-plain big | 0 | \e
-plain ptr | 0 | \e
-plain 8 | 0 | \e
-plain 64 | 0 | \e
+// The owned text and its copy take memory. The copy of the borrowed text takes none.
+field triple | some | \u{e9} | a text of seventeen | ~v~100000~
+field abi | some | \u{e9} | a text of seventeen | ~v~100000~
+field arch | some | \u{e9} | a text of seventeen | ~v~100000~
+field vendor | some | \u{e9} | a text of seventeen | ~v~100000~
+field os | some | \u{e9} | a text of seventeen | ~v~100000~
+field family | some | \u{e9} | a text of seventeen | ~v~100000~
+field env | some | \u{e9} | a text of seventeen | ~v~100000~
+field panic | some | \u{e9} | a text of seventeen | ~v~100000~
+predicate abi | some | \u{e9} | a text of seventeen | ~v~100000~
+predicate arch | some | \u{e9} | a text of seventeen | ~v~100000~
+predicate vendor | some | \u{e9} | a text of seventeen | ~v~100000~
+predicate os | some | \u{e9} | a text of seventeen | ~v~100000~
+predicate family | some | \u{e9} | a text of seventeen | ~v~100000~
+predicate env | some | \u{e9} | a text of seventeen | ~v~100000~
+predicate panic | some | \u{e9} | a text of seventeen | ~v~100000~
+plain big | none | \e
+plain ptr | none | \e
+plain 8 | none | \e
+plain 64 | none | \e
 families unix | some | {unix}
 families unix and wasm | some | {unix, wasm}
 families wasm | some | {wasm}
 families windows | some | {windows}
 families four | some | {, b, unix, wasm}
 many families | once | unix~ unix~9999~
-widths borrowed | 0 | {8, ptr}
+widths borrowed | none | {8, ptr}
 widths 128 | some | {8, 16, 32, 64, 128, ptr}
 widths 64 | some | {8, 16, 32, 64, ptr}
 widths 32 | some | {8, 16, 32, ptr}
@@ -48,8 +51,20 @@ widths two | some | {8, ptr}
 many widths | some | \e
 width error | some | expected integer or "ptr", found PTR
 row | some | \e
-input | 1 | \e | ----------
-input | 4 | ~-~300000~
+builtin | some | aarch64-apple-darwin | aarch64-apple-ios | aarch64-apple-ios-macabi\
+ | aarch64-apple-ios-sim | aarch64-apple-tvos
+fault | some | a | \u{e9} | a text of seventeen | ~v~100000~
+// Facts that are read beside `a`.
+facts flags | some | a | all(b, not(a)) | ?cfg(key = "v") | any(~b,~40~)\
+ | ~not(~40~b~)~40~ | ~k~1000~
+facts lines | some | a | all(b, not(a)) | ?cfg(key = "v") | any(~b,~40~)\
+ | ~not(~40~b~)~40~ | ~k~1000~\
+ | target_x = "y" | feature | ?target_os
+facts with a faulty flag | some | key) | ?not(a, b) | "~v~1000~ | target_x = "y"
+facts with a faulty line | some | key) | ?not(a, b) | "~v~1000~ | target_feature = ""
+unaskable | some | target_x = "y" | cfg(feature)
+input | some | \e | ----------
+input | some | ~-~300000~
 // What was read before a failed read is freed.
 failed read | once | 1 | 2 | 3 | 4 | 5
 "#;
@@ -71,6 +86,10 @@ pub(super) fn check_call<A: SmallAllocator>(
         ("many", _) => check_long_list(alloc, name, text),
         ("width", "error") => check_width_error(global, alloc, text),
         ("row", "") => check_builtin_row(alloc),
+        ("builtin", "") => check_builtin(alloc, text),
+        ("fault", "") => check_copied_fault(alloc, text),
+        ("facts", _) => check_facts(alloc, name, text),
+        ("unaskable", "") => is_unaskable(alloc, text),
         ("input", "") => check_input(global, alloc, text.as_bytes()),
         ("failed", "read") => Ok(stops_at_failed_read(alloc, text)),
         _ => Ok(false),
@@ -83,15 +102,14 @@ fn passes_once(global: Global, call: &str, text: &str) -> bool {
     is_ok_true(check_call(global, &heap, call, text)) & has_every_block(heap)
 }
 
-// Returns whether the call passes its check with each growth refused in turn, and has the number of
-// growths that `growths` says.
+// Returns whether the call passes its check with each growth refused in turn, and takes memory if
+// `growths` says so.
 fn passes(global: Global, call: &str, growths: &str, text: &str) -> bool {
     if growths == "once" {
         return passes_once(global, call, text);
     }
     match refuse_each_growth(global, Call::Other(call, text)) {
-        Some(count) if growths == "some" => count > 0,
-        Some(count) => growths.parse() == Ok(count),
+        Some(count) => growths == if count > 0 { "some" } else { "none" },
         None => false,
     }
 }

@@ -1,11 +1,13 @@
 //! Calls on an expression and on its condition.
 //!
 //! All predicates get the same answer, and the value has to be that answer.
+ghost use Rattle.cfg_expr.specs.Given.{AreAnswersTo};
+
 use super::texts::is_same_condition;
 use super::verdicts::{check_audit, check_decider, check_pick};
 use super::{AllocResult, Outcome};
 use cfg_expr::expr::logic::Kleene64;
-use cfg_expr::expr::{Condition, StepsError, eval_steps};
+use cfg_expr::expr::{Condition, Step, StepsError, eval_steps};
 use cfg_expr::memory::SmallAllocator;
 use cfg_expr::{Decision, Expression, Predicate};
 use cfgx_testing::checking::{is_ok_true, value_equals};
@@ -47,6 +49,8 @@ fn check_condition_call<A: SmallAllocator>(
         "Condition::eval_lanes" => check_condition_eval_lanes(alloc, condition),
         "Condition::polar_fillings" => check_condition_polar_fillings(alloc, condition),
         "Condition::decide" => check_condition_decide(alloc, condition),
+        "Condition::steps" => check_condition_steps(alloc, condition),
+        "eval_over" => check_eval_over(alloc, condition),
         _ => Ok(false),
     }
 }
@@ -88,16 +92,48 @@ fn check_condition_eval<A: SmallAllocator>(alloc: A, condition: &Condition<'_>) 
     check_value(value, asked, condition.predicates().left())
 }
 
-// Compiles the expression to steps, and checks that their value is true.
-fn check_steps<A: SmallAllocator>(alloc: A, expression: &Expression<A>) -> Outcome {
-    let steps = expression.steps(alloc)?;
-    let Some(answers) = [true; MOST_PREDICATES].get(..expression.predicates().left()) else {
+// Evaluates the condition over the items of `answers`.
+fn eval_over_items<A: SmallAllocator>(
+    alloc: A,
+    condition: &Condition<'_>,
+    answers: &[bool],
+) -> Outcome
+    requires { AreAnswersTo answers.now condition.now }
+{
+    condition.eval_over(alloc, answers.iter().copied())
+}
+
+fn check_eval_over<A: SmallAllocator>(alloc: A, condition: &Condition<'_>) -> Outcome {
+    match [true; MOST_PREDICATES].get(..condition.predicates().left()) {
+        Some(answers) => eval_over_items(alloc, condition, answers),
+        None => Ok(false),
+    }
+}
+
+/// Checks that the value of the steps over `count` true answers is true.
+pub(crate) fn check_eval_steps<A: SmallAllocator>(
+    alloc: A,
+    steps: &[Step],
+    count: usize,
+) -> Outcome {
+    let Some(answers) = [true; MOST_PREDICATES].get(..count) else {
         return Ok(false);
     };
-    match eval_steps(alloc, steps.as_slice(), answers) {
+    match eval_steps(alloc, steps, answers) {
         Err(StepsError::Memory(refused)) => Err(refused),
         value => Ok(is_ok_true(value)),
     }
+}
+
+// Compiles the expression to steps, and checks their value.
+fn check_steps<A: SmallAllocator>(alloc: A, expression: &Expression<A>) -> Outcome {
+    let steps = expression.steps(alloc)?;
+    check_eval_steps(alloc, steps.as_slice(), expression.predicates().left())
+}
+
+fn check_condition_steps<A: SmallAllocator>(alloc: A, condition: &Condition<'_>) -> Outcome {
+    let steps = condition.steps(alloc)?;
+    check_eval_steps(alloc, steps.as_slice(), condition.predicates().left())
 }
 
 // Returns an answer that is true in one lane, false in another, and unknown in all others.
@@ -198,7 +234,7 @@ fn check_condition_decide<A: SmallAllocator>(alloc: A, condition: &Condition<'_>
     let Some(answers) = UNKNOWN.get(..count) else {
         return Ok(false);
     };
-    let mut decision = Decision::default();
+    let mut decision = Decision::Known(false);
     let first = condition.decide(alloc, answers, &mut decision);
     if first.is_err() && condition.decide(alloc, answers, &mut decision).is_err() {
         return Ok(false);

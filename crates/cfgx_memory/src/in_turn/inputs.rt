@@ -1,4 +1,4 @@
-//! Inputs that are read whole. Their room begins with 64 KiB and doubles, and every block is freed.
+//! Inputs that are read whole.
 use super::Outcome;
 use cfgx_engine::engine::{Input, Stop, read_input};
 use cfgx_testing::checking::is_ok_true;

@@ -1,6 +1,6 @@
-//! A lexer whose text has a fault.
+//! A lexer whose text has a fault, and a fault with a copy of its text.
 use super::{Outcome, combine};
-use cfg_expr::error::Failure;
+use cfg_expr::error::{Failure, Reason};
 use cfg_expr::expr::lexer::{Lexer, LexerToken, Token};
 use cfg_expr::memory::SmallAllocator;
 use std::alloc::AllocError;
@@ -33,4 +33,20 @@ pub(super) fn check_lexer<A: SmallAllocator>(alloc: A, text: &str) -> Outcome {
     let fault = check_fault(&lexer.next());
     let ends = lexer.next().is_none() & (lexer.items_left_bound() == 0);
     combine(&[Ok(begins), Ok(ends), fault])
+}
+
+// Checks that the fault has the text `text`, the span 3..7 and the reason `Empty`.
+fn check_failure<A: SmallAllocator>(failure: &Failure<A>, text: &str) -> Outcome {
+    match failure {
+        Failure::Parse(error) => {
+            let is_in_span = error.span.start == 3 && error.span.end == 7;
+            Ok(is_in_span && error.original.as_str() == text && error.reason == Reason::Empty)
+        }
+        Failure::Memory(error) => Err(*error),
+    }
+}
+
+/// Checks a fault with a copy of `text`.
+pub(super) fn check_copied_fault<A: SmallAllocator>(alloc: A, text: &str) -> Outcome {
+    check_failure(&Failure::of(alloc, text, 3..7, Reason::Empty), text)
 }

@@ -6,7 +6,7 @@ use cfg_expr::error::Failure;
 use cfg_expr::expr::{Condition, ConditionReader};
 use cfg_expr::memory::SmallAllocator;
 use cfgx_testing::checking::is_ok_true;
-use cfgx_testing::heap::{Heap, empty_heap, has_every_block};
+use cfgx_testing::heap::{Heap, count_growths};
 use std::alloc::{AllocError, Global};
 
 // Checks that `read` is equal to `expected`.
@@ -65,76 +65,81 @@ pub(super) fn check_reader<A: SmallAllocator>(alloc: A, text: &str, expected: &P
     check_reads(&mut reader, text, expected)
 }
 
-/// Texts that one reader reads one after another, each with the number of growths that it takes. An
-/// `any()` with its comma and spaces has ten bytes.
+/// Texts that one reader reads one after another. Behind each stands `none` if reading it takes no
+/// memory, and `may` if it may take some: it has a fault, it needs more room than each text before
+/// it, or it follows the first text that has a node. Each growth is refused in turn.
 pub(super) const READ: &str = r#"
-// After the first text with a node, a reader makes room for eight nodes, eight predicates of open
-// lists, eight asked predicates and eight open functions. A text that needs more of one of them
-// makes more room for it.
-a | 0 | ~not(~7~a~)~7~ | 4 | any(a,b,c,d,e,f,g) | 0 | any(a,b,c,d,e,f,g,h) | 1
-a | 0 | a | 4 | any(~a,~9~) | 3 | any(~a,~9~) | 0
-a | 0 | a | 4 | ~not(~9~a~)~9~ | 2 | ~not(~9~a~)~9~ | 0
-// The nodes of a long text get their room at once, also after a short text or a long one.
-any(~any(),    ~60~) | 1 | a | 3 | any(~any(),    ~60~) | 0
-a | 0 | a | 4 | any(~any(),    ~60~) | 1
-any(~any(),    ~60~) | 1 | a | 3 | any(~any(),    ~600~) | 1
-// A short text gets no more room than it needs, also after a long text with one node.
-~k~1000~ | 0 | ~k~1000~ | 4 | any(~any(),    ~11~) | 1 | any(~any(),    ~60~) | 1
-// A fault takes a copy of its text.
-a | 0 | a | 4 | key) | 1 | a | 0
-) | 1 | a | 0 | a | 4
-// A first text with five predicates in one list leaves the inline room itself.
-any(~a,~5~) | 3 | a | 0 | a | 0
+a | may | ~not(~7~a~)~7~ | may | any(a,b,c,d,e,f,g) | may | any(a,b,c,d,e,f,g,h) | may\
+ | any(a,b,c,d,e,f,g) | none
+a | may | a | may | any(~a,~9~) | may | any(~a,~9~) | none
+a | may | a | may | ~not(~9~a~)~9~ | may | ~not(~9~a~)~9~ | none
+any(~any(),    ~60~) | may | a | may | any(~any(),    ~60~) | none
+a | may | a | may | any(~any(),    ~60~) | may | any(~any(),    ~60~) | none
+any(~any(),    ~60~) | may | a | may | any(~any(),    ~600~) | may | any(~any(),    ~60~) | none
+~k~1000~ | may | ~k~1000~ | may | any(~any(),    ~11~) | may | any(~any(),    ~60~) | may\
+ | any(~any(),    ~11~) | none
+a | may | a | may | key) | may | a | none
+) | may | a | may | a | may | a | none
+any(~a,~5~) | may | a | may | a | none
 "#;
 
-// Returns whether reading the text returns what parsing it returns, and takes `growths` growths.
-fn reads_in<'t, A: SmallAllocator>(
+// Checks that reading the text returns what parsing it returns.
+fn check_read_text<'t, A: SmallAllocator>(
+    global: Global,
+    reader: &mut ConditionReader<'t, A>,
+    text: &'t str,
+) -> Outcome {
+    check_read(reader, text, &Expression::parse(global, text))
+}
+
+// Checks a read of the text. If `wanted` is `none`, it must take no growth, unless one was refused
+// before: then the reader may still lack room that it asked for.
+fn check_growths_of_read<'t, A: SmallAllocator>(
     global: Global,
     heap: Heap<'_>,
     reader: &mut ConditionReader<'t, A>,
     text: &'t str,
-    growths: u64,
-) -> bool {
-    let asked = heap.asked_growths().saturating_add(growths);
-    let expected = Expression::parse(global, text);
-    is_ok_true(check_read(reader, text, &expected)) && heap.asked_growths() == asked
-}
-
-// Returns whether the reader reads the text of a pair with the growths of the pair.
-fn reads_pair<'t, A: SmallAllocator>(
-    global: Global,
-    heap: Heap<'_>,
-    reader: &mut ConditionReader<'t, A>,
-    pair: &'t [String],
-) -> bool {
-    let [text, growths] = pair else {
-        return false;
-    };
-    match growths.parse() {
-        Ok(growths) => reads_in(global, heap, reader, text.as_str(), growths),
-        Err(_) => false,
+    wanted: &str,
+) -> Outcome {
+    let asked = heap.asked_growths();
+    let outcome = check_read_text(global, reader, text);
+    match wanted {
+        "may" => outcome,
+        "none" if heap.asked_growths() == asked || heap.refused_growths() > 0 => outcome,
+        _ => Ok(false),
     }
 }
 
-// Returns whether a new reader reads each pair of the row.
-fn reads_pairs<A: SmallAllocator>(
+// Checks the reads of all pairs of a text and a word.
+fn check_pairs<'t, A: SmallAllocator>(
+    global: Global,
+    heap: Heap<'_>,
+    reader: &mut ConditionReader<'t, A>,
+    row: &'t [String],
+) -> Outcome {
+    let mut checked = Ok(!row.is_empty());
+    for pair in row.chunks(2) {
+        let [text, wanted] = pair else {
+            return Ok(false);
+        };
+        let outcome = check_growths_of_read(global, heap, reader, text.as_str(), wanted.as_str());
+        checked = combine(&[outcome, checked]);
+    }
+    checked
+}
+
+// Checks that a new reader reads the pairs of the row.
+fn check_row<A: SmallAllocator>(
     global: Global,
     heap: Heap<'_>,
     alloc: A,
     row: &[String],
-) -> bool {
+) -> Outcome {
     let mut reader = ConditionReader::new(alloc);
-    for pair in row.chunks(2) {
-        if !reads_pair(global, heap, &mut reader, pair) {
-            return false;
-        }
-    }
-    !row.is_empty()
+    check_pairs(global, heap, &mut reader, row)
 }
 
-/// Returns whether a reader reads the row, and every block is freed.
+/// Returns whether a reader reads the row, with each growth refused in turn.
 pub(super) fn row_passes(global: Global, row: &[String]) -> bool {
-    let heap = empty_heap(global);
-    let is_read = reads_pairs(global, &heap, &heap, row);
-    is_read && has_every_block(heap)
+    count_growths(global, |heap| check_row(global, heap, heap, row)).is_some()
 }

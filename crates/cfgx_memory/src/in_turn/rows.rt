@@ -4,6 +4,7 @@ use super::{AllocResult, Outcome, TryClone, check_copy, combine};
 use cfg_expr::memory::SmallAllocator;
 use cfg_expr::targets::{TargetInfo, TargetTable, get_builtin_target_by_triple};
 use cfgx_fields::Field;
+use cfgx_targets::builtins::builtin;
 use cfgx_testing::checking::assign_ok;
 use cfgx_testing::triples::DARWIN;
 use std::alloc::AllocError;
@@ -94,4 +95,17 @@ pub(super) fn check_builtin_row<A: SmallAllocator>(alloc: A) -> Outcome {
         Some(row) => check_row(alloc, row),
         None => Ok(false),
     }
+}
+
+// Returns whether there is a row, and it has the triple.
+fn has_triple<A: SmallAllocator>(row: &Option<TargetInfo<'_, A>>, triple: &str) -> bool {
+    match row {
+        Some(row) => row.triple.as_str() == triple,
+        None => false,
+    }
+}
+
+/// Checks the row of the built-in target with this triple.
+pub(super) fn check_builtin<A: SmallAllocator>(alloc: A, triple: &str) -> Outcome {
+    Ok(has_triple(&builtin(alloc, triple)?, triple))
 }

@@ -92,7 +92,7 @@ pub(super) fn run_survives(global: Global, words: &[&str], status: u8) -> bool {
 /// A kind, a status, and the fields of that kind:
 ///
 /// - `each refused`: the words. Each growth is refused in turn.
-/// - `counted`: the number of growths, the output, and the words. Each growth is refused in turn.
+/// - `no growth`: the output, and the words. The run takes no memory.
 /// - `pick`: the input and the output of a run of `pick` on the simulator. Each growth is refused
 ///   in turn.
 /// - `pick alike`: the inputs and the outputs of two such runs, as input, output, input, output.
@@ -110,13 +110,13 @@ each refused | 1 | eval | a | b | ?key) | c
 each refused | 0 | target | aarch64-apple-ios | any(unix, a)
 each refused | 0 | target | aarch64-apple-ios-sim | all(test, a, b, c, d, e)
 each refused | 1 | target | aarch64-apple-ios | key)
-counted | 2 | 0 | unknown triple\n | target | nowhere | key)
+no growth | 2 | unknown triple\n | target | nowhere | key)
 // A wide run and a deep one.
 each refused | 0 | eval | any(~a,~100~) | ?any(~b,~100~)
 each refused | 0 | target | aarch64-apple-tvos | ~not(~40~a~)~40~
 // No row is made for an unknown triple, and neither the condition nor the input is read.
-counted | 2 | 0 | unknown triple\n | target | nowhere | any(~a,~100~)
-counted | 2 | 0 | unknown triple\n | pick | nowhere
+no growth | 2 | unknown triple\n | target | nowhere | any(~a,~100~)
+no growth | 2 | unknown triple\n | pick | nowhere
 pick | 0 | SECTIONS | VERDICTS
 pick | 1 | x | line 1: no tab\n
 pick | 1 | a\tunix\n\nb\tkey)\n | line 3:\nkey)\n   ^ unopened parens\n
@@ -176,10 +176,10 @@ fn ends_without_memory(global: Global, words: &[&str], status: u8) -> bool {
     is_right && has_every_block(heap)
 }
 
-// Returns whether a run takes as many growths as the first of `fields` says, and each that is
-// refused in turn is survived. The second is the output, and the others are the words.
-fn takes_growths(global: Global, status: u8, fields: &[&str]) -> bool {
-    let [growths, output, words @ ..] = fields else {
+// Returns whether a run takes no memory. The first of `fields` is the output, and the others are
+// the words.
+fn takes_no_growth(global: Global, status: u8, fields: &[&str]) -> bool {
+    let [output, words @ ..] = fields else {
         return false;
     };
     let wanted = WantedRun {
@@ -187,10 +187,7 @@ fn takes_growths(global: Global, status: u8, fields: &[&str]) -> bool {
         status,
         output: output.as_bytes(),
     };
-    match growths.parse::<u64>() {
-        Ok(growths) => run_growths(global, words, &wanted) == Some(growths),
-        Err(_) => false,
-    }
+    run_growths(global, words, &wanted) == Some(0)
 }
 
 // Refuses each growth of a run of `pick` in turn. The fields are its input and its output. Returns
@@ -224,7 +221,7 @@ fn picks_take_same(global: Global, status: u8, fields: &[&str]) -> bool {
 fn run_passes(global: Global, kind: &str, status: u8, fields: &[&str]) -> bool {
     match kind {
         "each refused" => run_survives(global, fields, status),
-        "counted" => takes_growths(global, status, fields),
+        "no growth" => takes_no_growth(global, status, fields),
         "pick" => pick_survives(global, status, fields),
         "pick alike" => picks_take_same(global, status, fields),
         "without memory" => ends_without_memory(global, fields, status),

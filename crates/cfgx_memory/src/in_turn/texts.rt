@@ -37,8 +37,8 @@ copied | 8 | all(a, b, c, d, not(e), f, g, h)
 evaluated | 1 | a
 evaluated | 1 | cfg(key) | key
 evaluated | 3 | all(a, any(b), c)
-// Long texts. No run of the program reads a `scanned` text.
-scanned | U[`<key>` `all` `any` `not`] at 100000..100001 | ~\u{20}~100000~8
+// Long texts. No run of the program reads a `parsed` text.
+parsed | U[`<key>` `all` `any` `not`] at 100000..100001 | ~\u{20}~100000~8
 read | U[`<key>` `all` `any` `not`] at 5000..5001 | ~\u{20}~5000~8
 read | UnclosedQuotes at 0..5001 | "~v~5000~
 read | UnclosedParens at 3..200 | ~not(~40~a~)~39~
@@ -58,17 +58,16 @@ large | 1 | ~k~5000~
 large | 1 | ~k~100000~
 large | 50000 | any(~a,~50000~)
 large | 1 | ~not(~50000~a~)~50000~
-// `parse` takes one growth for its copy of the text, and one for the nodes if there are six or
-// more. Room for more than 3584 nodes takes another one.
-parsed in 1 | 1 | ~k~1~
-parsed in 1 | 1 | ~k~48~
-parsed in 1 | 1 | not(a)
-parsed in 1 | 3 | all(a, b, c)
-parsed in 1 | 3 | any(~target_os = "a",~3~)
-parsed in 1 | 1 | any(a,~false,~3~)
-parsed in 2 | 1 | any(a,~false,~4~)
-parsed in 2 | 0 | any(~any(),    ~60~)
-parsed in 3 | 0 | any(~any(),    ~4000~)
+// Few nodes and many.
+parsed | 1 | ~k~1~
+parsed | 1 | ~k~48~
+parsed | 1 | not(a)
+parsed | 3 | all(a, b, c)
+parsed | 3 | any(~target_os = "a",~3~)
+parsed | 1 | any(a,~false,~3~)
+parsed | 1 | any(a,~false,~4~)
+parsed | 0 | any(~any(),    ~60~)
+parsed | 0 | any(~any(),    ~4000~)
 "#;
 
 /// What `parse` returns.
@@ -187,22 +186,14 @@ fn equals_copy(global: Global, text: &str, expected: &Parsed) -> bool {
 // The calls on an `evaluated` text.
 const CALLS: &str = "parse from_str try_clone eval decide polar_fillings eval_lanes steps \
     Condition::eval Condition::decide Condition::polar_fillings Condition::eval_lanes \
-    Decider::decide audit pick";
-
-// Returns the number of growths that `parse` takes for `text`, or `None` if a check fails.
-fn parse_growths(global: Global, text: &str, expected: &Parsed) -> Option<u64> {
-    refuse_each_growth(global, Call::Text("parse", text, expected))
-}
+    Condition::steps eval_over Decider::decide audit pick";
 
 // Returns whether the calls of a row of the kind `kind` pass their checks.
 fn calls_pass(global: Global, kind: &str, text: &str, expected: &Parsed) -> bool {
     match kind {
-        "parsed in 1" => parse_growths(global, text, expected) == Some(1),
-        "parsed in 2" => parse_growths(global, text, expected) == Some(2),
-        "parsed in 3" => parse_growths(global, text, expected) == Some(3),
         "lexed" => survives_refusals(global, Call::Lex(text)),
         "large" => equals_copy(global, text, expected),
-        "scanned" => calls_survive(global, "parse from_str", text, expected),
+        "parsed" => calls_survive(global, "parse from_str", text, expected),
         "read" => all_survive(global, "parse from_str", text, expected),
         "copied" => all_survive(global, "parse from_str try_clone", text, expected),
         "evaluated" => all_survive(global, CALLS, text, expected),

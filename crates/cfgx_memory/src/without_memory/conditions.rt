@@ -1,12 +1,12 @@
 //! Conditions that are compared, printed, spelled, read again and evaluated.
 use super::tables::rows_with_memory;
 use crate::in_turn::AllocResult;
-use crate::in_turn::expressions::check_expression_call;
+use crate::in_turn::expressions::{check_eval_steps, check_expression_call};
 use crate::in_turn::reading::check_read;
 use crate::in_turn::texts::Parsed;
 use crate::in_turn::verdicts::Nowhere;
 use cfg_expr::expr::logic::Kleene64;
-use cfg_expr::expr::{ConditionReader, Predicates, spell};
+use cfg_expr::expr::{Condition, ConditionReader, Predicates, Step, spell};
 use cfg_expr::memory::SmallAllocator;
 use cfg_expr::targets::TargetInfo;
 use cfg_expr::{Expression, Predicate, TargetPredicate};
@@ -187,10 +187,44 @@ fn audits_no_target<A: SmallAllocator>(alloc: A, expression: &Expression<A>) -> 
     matches!(audit(alloc, expression, targets), Ok(verdicts) if verdicts.is_empty())
 }
 
+// Compiles the expression to steps with memory. Returns whether there are 33, which have the value
+// true.
+fn runs_steps<A: SmallAllocator>(heap: Heap<'_>, alloc: A, expression: &Expression<A>) -> bool {
+    heap.refuse(0);
+    let steps = expression.steps(alloc);
+    heap.refuse(EVERY);
+    match &steps {
+        Ok(steps) => {
+            let count = expression.predicates().left();
+            steps.len() == 33 && is_ok_true(check_eval_steps(alloc, steps.as_slice(), count))
+        }
+        Err(_) => false,
+    }
+}
+
+// Writes the steps of the condition into a buffer. Returns whether they are those of `steps`, which
+// have the value true. The buffer is made, and the steps are compared, with memory.
+fn writes_steps<A: SmallAllocator>(
+    heap: Heap<'_>,
+    alloc: A,
+    condition: &Condition<'_>,
+) -> AllocResult<bool> {
+    heap.refuse(0);
+    let mut written = vec![in alloc; Step::Literal(false); condition.step_count()]?;
+    heap.refuse(EVERY);
+    condition.write_steps(written.as_mut_slice());
+    heap.refuse(0);
+    let steps = condition.steps(alloc)?;
+    let count = condition.predicates().left();
+    let is_true = check_eval_steps(alloc, written.as_slice(), count)?;
+    Ok(is_true && written.as_slice() == steps.as_slice())
+}
+
 const TEXT: &str = "all(a, any(b), feature = \"a feature with a long name\")";
 
 /// A check, and the text of its expression. The first five are compared with `TEXT`, what is read
-/// again is read after `LONG`, and what is evaluated has 31 or 32 bytes.
+/// again is read after `LONG`, what is evaluated has 31 or 32 bytes, and `steps` makes 33 steps.
+/// Steps are written for any condition.
 pub(super) const CONDITIONS: &str = r#"
 text | all(a, any(b), feature = "a feature with a long name")
 predicates | all(a, any(b), feature = "a feature with a long name")
@@ -215,6 +249,26 @@ Condition::eval | all(all(),all(),all(),all(),a,a)
 Condition::eval_lanes | any(a,a,a,a,a,a,a,a,a,a,a,a,a,a)
 Condition::eval_lanes | not(not(not(not(not(not(a))))))
 Condition::eval_lanes | all(all(),all(),all(),all(),a,a)
+eval_over | any(a,a,a,a,a,a,a,a,a,a,a,a,a,a)
+eval_over | not(not(not(not(not(not(a))))))
+eval_over | all(all(),all(),all(),all(),a,a)
+steps | any(~a,~32~)
+steps | ~not(~32~a~)~32~
+write_steps | a
+write_steps | cfg(key)
+write_steps | all(a, any(b), c)
+write_steps | ~k~1000~
+write_steps | key = "~v~1000~"
+write_steps | all(~any(a, b),~40~)
+write_steps | ~not(~40~a~)~40~
+write_steps | any(a,~false,~40~)
+write_steps | any(~a,~100~)
+write_steps | ~any(~100~a~)~100~
+write_steps | ~not(~100~a~)~100~
+write_steps | all(a,~true,~100~)
+write_steps | any(a,~false,~100~)
+write_steps | any(a,~false,~50000~)
+write_steps | ~not(~50000~a~)~50000~
 "#;
 
 const SPELLINGS: &str = "bafeature = \"a feature with a long name\"";
@@ -247,9 +301,11 @@ fn expression_passes<A: SmallAllocator>(
             asks_for_simulator(expression, &rows_with_memory(heap, alloc, TRIPLES))
         }
         "no target" => audits_no_target(alloc, expression),
-        "eval" | "eval_lanes" | "Condition::eval" | "Condition::eval_lanes" => {
+        "eval" | "eval_lanes" | "Condition::eval" | "Condition::eval_lanes" | "eval_over" => {
             is_ok_true(check_expression_call(alloc, check, expression))
         }
+        "steps" => runs_steps(heap, alloc, expression),
+        "write_steps" => is_ok_true(writes_steps(heap, alloc, &expression.condition())),
         _ => false,
     }
 }

@@ -4,6 +4,7 @@ use super::faults::{compares_width_errors, lexes, prints_width_error};
 use super::is_ordered;
 use super::logics::logic_is_right;
 use super::named::named_values_are_right;
+use crate::in_turn::facts::name_a;
 use cfg_expr::TargetPredicate;
 use cfg_expr::error::Reason;
 use cfg_expr::expr::Func;
@@ -11,9 +12,10 @@ use cfg_expr::expr::lexer::Token;
 use cfg_expr::memory::SmallAllocator;
 use cfg_expr::targets::{Abi, Endian, HasAtomic, Os, rustc_version};
 use cfgx_engine::engine::Counted;
-use cfgx_engine::resolve::Verdict;
+use cfgx_engine::resolve::{Facts, Verdict};
 use cfgx_testing::checking::{is_ok_true, prints, value_equals};
 use cfgx_testing::heap::Heap;
+use cfgx_testing::refusing::EVERY;
 use cfgx_testing::streams::{ALL, Pieces};
 use std::alloc::Global;
 use std::str::FromStr;
@@ -111,6 +113,14 @@ fn counts_from_zero() -> bool {
     counted.failures() == 0 && counted.get_ref().left == b"ab".as_slice()
 }
 
+// Reads facts with memory. Returns whether they answer.
+fn answers_by_facts<A: SmallAllocator>(heap: Heap<'_>, alloc: A) -> bool {
+    heap.refuse(0);
+    let facts = Facts::from_flags(alloc, &["all(a, b)", "?key = \"v\""]);
+    heap.refuse(EVERY);
+    matches!(&facts, Ok(facts) if name_a(facts))
+}
+
 /// The names of checks.
 pub(super) const VALUES: &str = r#"
 order of functions
@@ -127,6 +137,7 @@ predicates on a target
 verdicts
 error of a width
 errors of widths
+answers of facts
 version
 counted stream
 named abis
@@ -162,8 +173,8 @@ fn passes_alone<A: SmallAllocator>(global: Global, alloc: A, check: &str) -> boo
     }
 }
 
-/// Returns whether the check with the name `check` passes, with every growth refused. Errors are
-/// made with memory.
+/// Returns whether the check with the name `check` passes, with every growth refused. Errors and
+/// facts are made with memory.
 pub(super) fn passes<A: SmallAllocator>(
     global: Global,
     heap: Heap<'_>,
@@ -175,6 +186,7 @@ pub(super) fn passes<A: SmallAllocator>(
         Some(("logic", name)) => logic_is_right(name),
         Some(("error", "of a width")) => prints_width_error(global, heap, alloc),
         Some(("errors", "of widths")) => compares_width_errors(heap, alloc),
+        Some(("answers", "of facts")) => answers_by_facts(heap, alloc),
         _ => passes_alone(global, alloc, check),
     }
 }
