@@ -11,7 +11,7 @@ def main() -> int:
     except ImportError as error:
         message = "".join(one if one.isprintable() else repr(one)[1:-1] for one in str(error))
         print(f"cfgx-deps: {message}", file=sys.stderr)
-        return 1
+        return 3
     return _command.main()
 
 

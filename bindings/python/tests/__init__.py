@@ -14,7 +14,7 @@ HERE = os.path.dirname(os.path.abspath(__file__))
 PACKAGE = os.path.join(HERE, "..", "src")
 ROOT = os.path.abspath(os.path.join(HERE, "..", "..", ".."))
 ARCHIVE = os.path.join(ROOT, "crates", "cfgx_c", "out", "libcfgx_c.a")
-INSTALLED = os.path.join(ROOT, "out", "cfgx", "lib", "libcfgx.so.2.2")
+INSTALLED = os.path.join(ROOT, "out", "cfgx", "lib", "libcfgx.so")
 
 
 def linked() -> str:
@@ -24,7 +24,7 @@ def linked() -> str:
     kit = os.path.join(os.path.dirname(page.strip()), "c", "liblibc_c.a")
     folder = tempfile.mkdtemp()
     atexit.register(shutil.rmtree, folder)
-    path = os.path.join(folder, "libcfgx.so.2.2")
+    path = os.path.join(folder, "libcfgx.so")
     whole = ["-Wl,--whole-archive", ARCHIVE, kit, "-Wl,--no-whole-archive"]
     subprocess.run(["cc", "-shared", "-o", path, *whole], check=True)
     return path
@@ -40,7 +40,9 @@ def is_there(name):
         return os.path.exists(name)
     if name == "Python 3.11":
         return sys.version_info >= (3, 11)
-    if name not in ("cargo", "jq", "rustc"):
+    if name == "Linux":
+        return sys.platform == "linux"
+    if name not in ("cargo", "jq", "mypy", "rustc"):
         raise ValueError(name)
     # A tool that rustup stands in for may lack its toolchain.
     pipe = subprocess.PIPE

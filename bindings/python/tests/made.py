@@ -66,11 +66,15 @@ class Folder(unittest.TestCase):
         head = f'[workspace]\nresolver = "2"\nexclude = ["stubs"]\nmembers = {list(members)}\n'
         return self.write("Cargo.toml", head.replace("'", '"') + "".join(map("{}\n".format, lines)))
 
-    def graph_of(self, path, *targets, rustc=None, folder="/", **variables):
-        """Returns the units that Cargo would build of all packages and parts of a workspace."""
+    def graph_of(
+        self, path, *targets, rustc=None, folder="/", command=("build", "--all-targets"),
+        **variables,
+    ):
+        """Returns the units that a command of Cargo would build of all packages of a workspace: by
+        itself, of all their parts."""
         rustc = rustc or self.write_program("tools/rustc", RUSTC)
-        words = ["cargo", "build", "--unit-graph", "-Z", "unstable-options", "--offline",
-                 "--workspace", "--all-targets", "--all-features", "--manifest-path", path]
+        words = ["cargo", *command, "--unit-graph", "-Z", "unstable-options", "--offline",
+                 "--workspace", "--all-features", "--manifest-path", path]
         words += [word for target in targets for word in ("--target", target)]
         usual = {name: value for name, value in os.environ.items() if "RUSTFLAGS" not in name}
         run = subprocess.run(
@@ -140,5 +144,5 @@ def is_reader(unit, kind):
     kinds, mode = unit["target"]["kind"], unit["mode"]
     if "custom-build" in kinds:
         return kind == "build" and mode == "build"
-    is_test = mode == "test" or kinds[0] in ("test", "example", "bench")
+    is_test = mode in ("test", "doctest") or kinds[0] in ("test", "example", "bench")
     return kind == "normal" or (kind == "dev" and is_test)

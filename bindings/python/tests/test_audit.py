@@ -1,10 +1,12 @@
 """Values and answers on targets."""
 import itertools
+import os
 import pickle
 import unittest
 import unittest.mock
 
 from . import needs
+from .made import Folder
 
 import cfgx
 from cfgx import _facts
@@ -169,6 +171,11 @@ class Answers(unittest.TestCase):
                 cfgx.parse(text).answers(facts)
             self.assertEqual(caught.exception.args[:3], (0, number, fact))
 
+    def test_many_predicates(self):
+        count = 20_000
+        expression = cfgx.parse(f"all({'a, b, ' * (count // 2)})")
+        self.assertEqual(expression.answers(["a", "?b"]), [True, None] * (count // 2))
+
     def test_other_arguments(self):
         expression = cfgx.parse("unix")
         with self.assertRaises(ValueError):
@@ -182,7 +189,7 @@ class Answers(unittest.TestCase):
 
 
 @needs("rustc", untested="the facts of a real rustc")
-class Rustc(unittest.TestCase):
+class Rustc(Folder):
     """What the `rustc` on the path says."""
 
     def test_facts(self):
@@ -198,9 +205,40 @@ class Rustc(unittest.TestCase):
         message = "rustc refused --print cfg --target nowhere: error"
         self.assertTrue(str(caught.exception).startswith(message))
 
+    def test_a_toolchain_of_the_current_folder(self):
+        # rustup runs the programs below a path that this file has.
+        mark = os.path.join(self.folder, "mark")
+        self.write_program("here/bin/rustc", f"#!/bin/sh\n: > {mark}\nexit 1\n")
+        self.write("here/rust-toolchain.toml", f'[toolchain]\npath = "{self.folder}/here"\n')
+        before = os.getcwd()
+        self.addCleanup(os.chdir, before)
+        os.chdir(os.path.join(self.folder, "here"))
+        self.assertIn("unix", cfgx.rustc_facts("x86_64-unknown-linux-gnu"))
+        self.assertFalse(os.path.exists(mark))
 
-class NoRustc(unittest.TestCase):
-    """What happens without a `rustc`."""
+
+class MadeRustc(Folder):
+    """A `rustc` that is made up, or none."""
+
+    def refusal_of(self, script, triple="t"):
+        """Returns the message of the error if `rustc` is this script."""
+        self.write_program("tools/rustc", script)
+        with unittest.mock.patch.dict("os.environ", PATH=os.path.join(self.folder, "tools")), \
+                self.assertRaises(cfgx.RustcError) as caught:
+            cfgx.rustc_facts(triple)
+        return str(caught.exception)
+
+    def test_a_message_that_is_not_utf8(self):
+        message = self.refusal_of("#!/bin/sh\nprintf 'a\\377b\\n' >&2\nexit 1\n")
+        self.assertEqual(message, "rustc refused --print cfg --target t: a\ufffdb")
+
+    def test_facts_that_are_not_utf8(self):
+        message = self.refusal_of("#!/bin/sh\nprintf 'a\\377b\\n'\n")
+        self.assertTrue(message.startswith("rustc printed what is not UTF-8: "), message)
+
+    def test_a_triple_with_a_zero_byte(self):
+        message = self.refusal_of("#!/bin/sh\n", "a\0b")
+        self.assertEqual(message, "rustc takes no word with a zero byte: 'a\\x00b'")
 
     def test_it_is_not_there(self):
         with unittest.mock.patch.dict("os.environ", PATH="/nowhere"):

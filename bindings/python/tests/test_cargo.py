@@ -58,6 +58,28 @@ PARTS = [
     ('[[example]]\nname = "e"\ncrate-type = ["proc-macro"]\n', ["src/lib.rs", "examples/e.rs"],
      (False, True, True)),
 ]
+# The lines and the sources of a package: whether something that reads dev-dependencies is built for
+# the host, and for the target.
+TESTED = [
+    ("", ["src/lib.rs"], (False, True)), ("", ["src/main.rs"], (False, True)),
+    ("[lib]\ntest = false\n", ["src/lib.rs"], (False, True)),
+    ("[lib]\ndoctest = false\n", ["src/lib.rs"], (False, True)),
+    ("[lib]\ntest = false\ndoctest = false\n", ["src/lib.rs"], (False, False)),
+    ("[lib]\nproc-macro = true\n", ["src/lib.rs"], (True, False)),
+    ("[lib]\nproc-macro = true\ntest = false\n", ["src/lib.rs"], (True, False)),
+    ("[lib]\nproc-macro = true\ntest = false\ndoctest = false\n", ["src/lib.rs"],
+     (False, False)),
+    ('[[bin]]\nname = "a"\ntest = false\n', ["src/main.rs"], (False, False)),
+    ('[[bin]]\nname = "a"\ntest = false\ndoctest = true\n', ["src/main.rs"], (False, False)),
+    ('[lib]\ntest = false\ndoctest = false\n[[test]]\nname = "t"\ntest = false\n',
+     ["src/lib.rs", "tests/t.rs"], (False, False)),
+    ("[lib]\ntest = false\ndoctest = false\n", ["src/lib.rs", "tests/t.rs"], (False, True)),
+    ("[lib]\ntest = false\ndoctest = false\n", ["src/lib.rs", "examples/e.rs"], (False, True)),
+    ("[lib]\ntest = false\ndoctest = false\n", ["src/lib.rs", "benches/b.rs"], (False, True)),
+    ("[lib]\ntest = false\ndoctest = false\n", ["src/lib.rs", "src/main.rs"], (False, True)),
+    ('[lib]\ntest = false\ndoctest = false\n[[example]]\nname = "e"\n'
+     'crate-type = ["proc-macro"]\n', ["src/lib.rs", "examples/e.rs"], (True, False)),
+]
 # Manifests that Cargo refuses, and words of its message.
 REFUSED = [
     ("[package", "Cargo.toml"), ("a = " + "[" * 500, "Cargo.toml"),
@@ -96,6 +118,13 @@ class Listed(Folder):
                 found = one.has_build_script, one.has_macro, one.has_target_units
                 self.assertEqual(found, wanted)
 
+    def test_what_reads_dev_dependencies(self):
+        for place, (text, sources, wanted) in enumerate(TESTED):
+            with self.subTest(text=text, sources=sources):
+                self.folder = os.path.join(self.folder, str(place))
+                one = self.listed(text, *sources)
+                self.assertEqual((one.has_macro_tests, one.has_target_tests), wanted)
+
     def test_the_order_of_parts(self):
         for kinds in (("proc-macro", "bin"), ("bin", "proc-macro", "test")):
             targets = [{"kind": [kind], "crate_types": [kind]} for kind in kinds]
@@ -128,12 +157,16 @@ class Listed(Folder):
             ({"manifest": self.folder + "/one/Cargo.toml", "is_workspace": True}, "one two three"),
             ({"manifest": self.folder + "/one", "packages": ["two"]}, "two"),
             ({"manifest": root, "packages": ["three", "one"], "is_workspace": True}, "one three"),
+            ({"manifest": root, "packages": ["three", "one", "three"]}, "one three"),
         ]
+        listed = [one.name for one in _cargo.workspace_of(root).packages]
+        self.assertEqual(sorted(listed), ["one", "three", "two"])
         for options, wanted in rows:
             with self.subTest(options=options):
                 report = manifest.report(**options)
-                self.assertEqual(sorted(row.dependency.package for row in report.rows),
-                                 sorted(wanted.split()))
+                # In the order of Cargo, and each once, however they are named.
+                self.assertEqual([row.dependency.package for row in report.rows],
+                                 [name for name in listed if name in wanted.split()])
         for name, hint in (("thre", "; is it three?"), ("x", "")):
             with self.assertRaises(manifest.RequestError) as caught:
                 manifest.report(root, packages=["one", name])
@@ -165,8 +198,13 @@ class Listed(Folder):
         for way, folder in ways:
             with self.subTest(way=way, folder=folder):
                 os.chdir(os.path.join(self.folder, folder))
-                rows = manifest.report(way).rows
-                self.assertEqual([row.dependency.name for row in rows], ["b"])
+                report = manifest.report(way)
+                self.assertEqual([row.dependency.name for row in report.rows], ["b"])
+                # The path is whole, and keeps the links on the way.
+                whole = os.path.normpath(os.path.join(self.folder, folder, way or "../" * 2))
+                wanted = f"{self.folder}/a" if way is None else whole.replace("/Cargo.toml", "")
+                self.assertEqual(report.manifest_path, f"{wanted}/Cargo.toml")
+                self.assertEqual("link" in report.manifest_path, "link" in (way or ""))
 
 
 class Started(Folder):
@@ -224,6 +262,14 @@ class Started(Folder):
             manifest.report()
         message = f"there is no Cargo.toml in {self.folder} or above it"
         self.assertEqual(str(caught.exception), message)
+
+    def test_a_manifest_above_a_repository(self):
+        self.write("Cargo.toml")
+        self.write("a/.git/config")
+        self.write("a/b/.git")
+        for folder in ("", "/a", "/a/b"):
+            with unittest.mock.patch("os.getcwd", lambda: self.folder + folder):
+                self.assertEqual(_cargo.manifest_at(None), f"{self.folder}/Cargo.toml")
 
     def test_a_current_folder_that_is_gone(self):
         with unittest.mock.patch("os.getcwd", side_effect=FileNotFoundError(2, "No such file")), \

@@ -141,7 +141,7 @@ class Statuses(Made):
                 if "tools" in words[0]:
                     self.write("metadata.json", "[")
                 status, output, found = self.command(*words)
-                self.assertEqual((status, output), (1, ""))
+                self.assertEqual((status, output), (3, ""))
                 self.assertRegex(found, r"\Acfgx-deps: .*\n\Z")
                 self.assertIn(message, found)
                 self.list(dependency_of())
@@ -149,18 +149,18 @@ class Statuses(Made):
     def test_no_cargo(self):
         os.remove(os.path.join(self.tools, "cargo"))
         message = "cfgx-deps: there is no cargo on the path, and only cargo reads a manifest\n"
-        self.assertEqual(self.command(), (1, "", message))
+        self.assertEqual(self.command(), (3, "", message))
 
     def test_no_manifest(self):
         os.remove(self.path)
         message = f"cfgx-deps: there is no Cargo.toml in {self.audited} or above it\n"
-        self.assertEqual(self.command(), (1, "", message))
+        self.assertEqual(self.command(), (3, "", message))
 
     def test_no_library(self):
-        status, output, message = self.command(CFGX_LIBRARY="/nowhere/\x1blibcfgx.so.2.2")
-        self.assertEqual((status, output), (1, ""))
-        self.assertRegex(message, r"\Acfgx-deps: cfgx cannot load /nowhere/\\x1blibcfgx.so.2.2 \("
-                                  r".* let CFGX_LIBRARY name the file libcfgx.so.2.2\n\Z")
+        status, output, message = self.command(CFGX_LIBRARY="/nowhere/\x1bsome.so")
+        self.assertEqual((status, output), (3, ""))
+        self.assertRegex(message, r"\Acfgx-deps: cfgx cannot load /nowhere/\\x1bsome.so \("
+                                  rf".* let CFGX_LIBRARY name the file {_library.NAME}\n\Z")
 
     def test_no_library_by_the_name_of_the_package(self):
         status, output, message = self.command(start=["-m", "cfgx"], CFGX_LIBRARY="/nowhere")
@@ -200,12 +200,12 @@ class Statuses(Made):
         message = "cfgx-deps: the output could not be written: No space left on device\n"
         for words in ([], ["--version"], ["--help"]):
             with open("/dev/full", "w") as full:
-                self.assertEqual(self.command(*words, stdout=full), (1, "", message))
+                self.assertEqual(self.command(*words, stdout=full), (3, "", message))
 
     def test_a_closed_output(self):
         message = "cfgx-deps: the output is closed\n"
         for words in ([], ["--version"], ["--help"]):
-            self.assertEqual(self.command(*words, shell='"$@" >&-'), (1, "", message))
+            self.assertEqual(self.command(*words, shell='"$@" >&-'), (3, "", message))
 
     @needs("/dev/full", untested="messages on a full device")
     def test_messages_that_cannot_be_printed(self):
@@ -213,13 +213,22 @@ class Statuses(Made):
         self.list(dependency_of(target='cfg(target_os = "")'))
         table = TABLE.replace("cfg(unix)", 'cfg(target_os = "")')
         rows = [([], 0, table), (["--fail-on", "never"], 1, table), (["--none"], 2, ""),
-                (["--kind", "x"], 2, ""), (["--facts", "none.cfg"], 1, "")]
+                (["--kind", "x"], 2, ""), (["--facts", "none.cfg"], 3, "")]
         for words, status, output in rows:
             for closing in ("2> /dev/full", "2>&-"):
                 with self.subTest(words=words, closing=closing):
                     found = self.command(*words, "--target", WINDOWS, shell=f'"$@" {closing}',
                                          RUSTFLAGS="--cfg a")
                     self.assertEqual(found, (status, output, ""))
+
+    def test_lines_that_are_printed_in_pieces(self):
+        for count, length in ((0, 1), (1, 1), (3, 1), (10, _command.PIECE // 4), (3, 1 << 21)):
+            lines = [str(number) * length for number in range(count)]
+            pieces = list(_command.pieces_of(lines))
+            self.assertEqual("\n".join(pieces), "\n".join(lines))
+            self.assertTrue(all(len(piece) <= _command.PIECE + length for piece in pieces))
+        self.assertEqual([list(_command.pieces_of(["a", ""])), list(_command.pieces_of([""]))],
+                         [["a\n"], [""]])
 
     def test_a_reader_that_has_enough(self):
         reader, writer = os.pipe()
@@ -235,11 +244,11 @@ class Statuses(Made):
         self.assertIn("\n\\xe9\\u65e5          yes   cfg(unix)\n", found[1])
 
     def test_memory_that_is_refused(self):
-        for error, status in ((MemoryError(), 1), (KeyboardInterrupt(), 130)):
+        for error, status in ((MemoryError(), 3), (KeyboardInterrupt(), 130)):
             with unittest.mock.patch.object(_command, "run", side_effect=error), \
                     unittest.mock.patch.object(_command, "complain") as complain:
                 self.assertEqual(_command.main([]), status)
-            self.assertEqual(complain.call_count, 1 if status == 1 else 0)
+            self.assertEqual(complain.call_count, 1 if status == 3 else 0)
 
 
 class Options(Made):
@@ -322,6 +331,15 @@ class Options(Made):
             note = "" if end is None else f"cfgx-deps: note: {name} is set and not read; {end}\n"
             self.assertEqual(self.rows(**variables)[1], note)
 
+    def test_a_target_of_the_environment(self):
+        note = "cfgx-deps: note: CARGO_BUILD_TARGET is set and not read; --target names a target\n"
+        facts = self.write("my.cfg", FACTS)
+        for words, value, wanted in [((), WINDOWS, note), ((), "", ""),
+                                     (("--target", HOST), WINDOWS, ""),
+                                     (("--facts", facts), WINDOWS, "")]:
+            with self.subTest(words=words, value=value):
+                self.assertEqual(self.rows(*words, CARGO_BUILD_TARGET=value)[1], wanted)
+
     def test_a_configuration(self):
         config = self.write("audited/.cargo/config.toml", "[build]\nrustflags = []\n")
         note = f"cfgx-deps: note: {config} has rustflags, which are not read; --cfg says which"
@@ -351,7 +369,7 @@ class Options(Made):
         self.assertEqual((status, message), (0, ""))
         for word in ("MANIFEST", "--target", "--host", "--facts", "--rustc", "--workspace", "-p",
                      "--kind", "--cfg", "--no-other-cfg", "--rustflags", "--format", "--summary",
-                     "--fail-on", "--wide", "--version"):
+                     "--fail-on", "--wide", "--version", "--cargo-timeout"):
             self.assertIn(word, output)
 
 
@@ -376,7 +394,7 @@ class Terminal(Made):
     def test_a_condition_that_cargo_cannot_list(self):
         self.list(dependency_of("a", f"cfg({HOSTILE} a b)"))
         status, output, message = self.command()
-        self.assertEqual((status, output), (1, ""))
+        self.assertEqual((status, output), (3, ""))
         self.assertTrue(message[:-1].replace("\n", "").isprintable())
         self.assertIn(SHOWN[2:], message)
 
@@ -389,6 +407,17 @@ class Terminal(Made):
             self.assertEqual((status, message), (0, ""))
             longest = max(map(len, output.splitlines()))
             self.assertEqual(longest <= 70, is_cut, output)
+
+
+    def test_notes(self):
+        os.rename(self.audited, f"{self.audited}{HOSTILE}")
+        self.audited += HOSTILE
+        self.write(f"audited{HOSTILE}/.cargo/config.toml", "[build]\nrustflags = []\n")
+        status, _, message = self.command()
+        note = f"{self.folder}/audited{SHOWN}/.cargo/config.toml has rustflags"
+        self.assertTrue(message.startswith(f"cfgx-deps: note: {note}"), message)
+        self.assertTrue(message[:-1].isprintable(), ascii(message))
+        self.assertEqual(status, 0)
 
 
 class Folders(Made):
@@ -432,9 +461,13 @@ class Folders(Made):
         mark = os.path.join(self.folder, "mark")
         for tool in ("cargo", "rustc"):
             self.write_program(f"audited/{tool}", f"#!/bin/sh\n: > {mark}\nexit 1\n")
-        self.command("--rustc", PATH=f".:{self.tools}:")
+        for path in (".:{}", ":{}", "{}:", "./:{}", "../audited:{}"):
+            path = path.format(self.tools)
+            self.command("--rustc", PATH=path)
+            self.assertEqual(self.command("--target", WINDOWS, PATH=path), (0, TABLE, ""))
+        for path in (".", "../audited"):
+            self.assertEqual(self.command(PATH=path)[0], 3)
         self.assertFalse(os.path.exists(mark))
-        self.assertEqual(self.command("--target", WINDOWS, PATH=f".:{self.tools}"), (0, TABLE, ""))
 
     def test_a_toolchain_of_the_folder(self):
         # rustup takes the toolchain from the folder in which cargo starts.

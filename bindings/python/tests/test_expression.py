@@ -7,6 +7,7 @@ import decimal
 import itertools
 import pickle
 import unittest
+import unittest.mock
 
 from . import PACKAGE  # noqa: F401
 
@@ -193,6 +194,11 @@ class Expressions(unittest.TestCase):
         self.assertEqual(hash(cfgx.parse("cfg(key)")), hash(cfgx.parse("key")))
         self.assertNotEqual(cfgx.parse("key,"), cfgx.parse("key"))
         self.assertNotEqual(cfgx.parse("key"), "key")
+
+    def test_what_is_equal_to_everything(self):
+        # Another type may say what it is equal to.
+        self.assertEqual(cfgx.parse("key"), unittest.mock.ANY)
+        self.assertFalse(cfgx.parse("key") != unittest.mock.ANY)
 
     def test_copies(self):
         expression = cfgx.parse('cfg(any(test, a = "é"))')

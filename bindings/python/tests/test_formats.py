@@ -4,7 +4,7 @@ import re
 import unittest
 
 from cfgx import Reason, manifest
-from cfgx.manifest import Value, _formats, _platforms, _summary, _table
+from cfgx.manifest import Value, _formats, _once, _platforms, _summary, _table
 from cfgx.manifest._conditions import Fault, Unknown
 
 VALUES = {"y": Value.YES, "n": Value.NO, "?": Value.UNKNOWN, "-": Value.NOT_READ}
@@ -29,10 +29,11 @@ def row(name, values, condition=None, unknown=(), **options):
     fields = {"package": "p", "renamed_from": None, "kind": "normal", "is_optional": False,
               **options}
     is_never, fault = fields.pop("is_never", False), fields.pop("fault", None)
+    is_tried = fields.pop("is_tried", True)
     found = tuple(VALUES[value] for value in values)
     why = {place: next(reasons) for place, value in enumerate(values) if value == "?"}
     dependency = manifest.Dependency(name=name, condition=condition, **fields)
-    return manifest.Row(dependency, found, is_never, why, fault)
+    return manifest.Row(dependency, found, is_never, why, fault, is_tried)
 
 
 def report(*rows, targets=("t1", "t2"), notes=()):
@@ -93,6 +94,10 @@ class Table(unittest.TestCase):
             (["---", "nnn", "-nn", "-yn", "y?n"],
              "5 rows: 2 no, 1 yes or no, 1 unknown, 1 not read"),
         ]
+        for left, end in ((1, "; 1 row not tried out"), (2, "; 2 rows not tried out")):
+            made = [row("a", "?", unknown=[MANY], is_tried=number >= left) for number in range(3)]
+            wanted = f"host h; 3 rows: 3 unknown{end}"
+            self.assertEqual(lines(report(*made, targets=()))[-1], wanted)
         for values, wanted in rows:
             made = [row("a", one, unknown=[LOOM]) for one in values]
             self.assertEqual(lines(report(*made))[-1], f"host h; {wanted}")
@@ -108,7 +113,7 @@ class Table(unittest.TestCase):
             '  a, k="v"',
             '    e: for example, yes if a; no if not(a) and not(k="v")',
             "  a, b, c",
-            "    f: too many flags to try all answers",
+            f"    f: {_table.NOT_TRIED}",
         ])
 
     def test_reasons_of_several_packages(self):
@@ -146,6 +151,15 @@ class Table(unittest.TestCase):
         rows = [line for line in found if line.startswith("log")]
         self.assertTrue(all(len(line) <= 60 and line.endswith("xx..") for line in rows), rows)
 
+    def test_a_width_for_an_explanation(self):
+        made = report(row("a", "-?y", "cfg(loom)", [LOOM]))
+        whole = lines(made)[-4:-1]
+        self.assertEqual(whole[0], _table.EXPLANATION)
+        for width in (1, 5, _table.LEAST, _table.LEAST + 1, len(whole[0]) - 1, len(whole[0])):
+            most = max(width, _table.LEAST)
+            wanted = [line if len(line) <= most else line[:most - 2] + ".." for line in whole]
+            self.assertEqual(lines(made, width)[-4:-1], wanted)
+
     def test_a_width_for_nothing(self):
         made = report(row("a-long-name", "-yy", "cfg(" + "x" * 40 + ")"))
         for width in range(1, 120):
@@ -170,10 +184,10 @@ class Table(unittest.TestCase):
             ["d", "0", "0", "4", "cfg(d)"],
             ["e", "3", "3", "0", "yes: t1, t2, t3", "cfg(e)"],
         ])
+
     def test_a_summary_of_many(self):
         more = report(row("a", "-yyyyynnnnnn", "cfg(a)"), targets=[f"t{n}" for n in range(11)])
         self.assertIn("  yes: t0, t1, t2, ..  ", list(_table.summary_table_of(more, None))[1])
-
 
     def test_a_summary_that_is_too_wide(self):
         names = [f"target-{number}" for number in range(5)]
@@ -201,7 +215,7 @@ class Programs(unittest.TestCase):
         made = report(
             row("a", "-??", "cfg(loom)", [LOOM, LOOM], renamed_from="b", is_optional=True),
             row("c", "nnn", "cfg(panic)", kind="build", is_never=True, fault=fault),
-            row("é\u202e", "-??", None, [LOOM, BOTH]), notes=["one"],
+            row("é\u202e", "-??", None, [LOOM, BOTH], is_tried=False), notes=["one"],
         )
         text = "\n".join(_formats.json_of(made, False))
         self.assertTrue(text.isascii())
@@ -217,27 +231,28 @@ class Programs(unittest.TestCase):
             "dependencies": [
                 {"package": "p", "name": "a", "renamed_from": "b", "kind": "normal",
                  "optional": True, "condition": "cfg(loom)", "values": ["-", "unknown", "unknown"],
-                 "never": False, "fault": None,
+                 "never": False, "tried": True, "fault": None,
                  "unknown": [{"platforms": [1, 2], "flags": ["loom"], "if_yes": {"loom": True},
                               "if_no": {"loom": False}}]},
                 {"package": "p", "name": "c", "renamed_from": None, "kind": "build",
                  "optional": False, "condition": "cfg(panic)", "values": ["no", "no", "no"],
-                 "never": True, "unknown": [],
+                 "never": True, "unknown": [], "tried": True,
                  "fault": {"reason": "UNEXPECTED", "span": [4, 9]}},
                 {"package": "p", "name": "é\u202e", "renamed_from": None, "kind": "normal",
                  "optional": False, "condition": None, "values": ["-", "unknown", "unknown"],
-                 "never": False, "fault": None,
+                 "never": False, "tried": False, "fault": None,
                  "unknown": [{"platforms": [1], "flags": ["loom"], "if_yes": {"loom": True},
                               "if_no": {"loom": False}},
                              {"platforms": [2], "flags": ["a", 'k="v"'], "if_yes": {"a": True},
                               "if_no": {"a": False, 'k="v"': False}}]},
             ],
+            "tried": False,
             "notes": ["one"],
         })
 
     def test_json_without_rows(self):
         found = json.loads("\n".join(_formats.json_of(report(targets=()), False)))
-        self.assertEqual((found["dependencies"], found["notes"]), ([], []))
+        self.assertEqual((found["dependencies"], found["notes"], found["tried"]), ([], [], True))
 
     def test_json_of_a_summary(self):
         made = report(row("a", "-yn?", "cfg(a)", [LOOM]), row("b", "yyyy"),
@@ -303,6 +318,22 @@ class Hostile(unittest.TestCase):
             self.assertEqual(str(error(f"{HOSTILE[1:]}\nb")), f"{SHOWN[2:]}\nb")
 
 
+class Shared(unittest.TestCase):
+    """What is made once of an object that many rows share."""
+
+    def test_each_object(self):
+        made = []
+        once = _once.Once(lambda given: made.append(given) or len(given))
+        lists = [[1], [1], [1, 2]]
+        self.assertEqual([once(one) for one in lists + lists], [1, 1, 2, 1, 1, 2])
+        self.assertEqual(made, lists)
+
+    def test_objects_that_are_gone(self):
+        # A new object may have the address of one that is gone.
+        once = _once.Once(len)
+        self.assertEqual([once([0] * count) for count in range(100)], list(range(100)))
+
+
 class Summaries(unittest.TestCase):
     """How many platforms have each value."""
 
@@ -311,6 +342,6 @@ class Summaries(unittest.TestCase):
                 ("----", None, ()), ("-y?n", Value.YES, ("t1",)), ("-?yy", Value.UNKNOWN, ("t1",))]
         for values, smaller, names in rows:
             made = report(row("a", values, "cfg(a)", [LOOM]), targets=("t1", "t2", "t3"))
-            found = _summary.summary_of(made.rows[0], made.platforms)
+            found = _summary.summary_of(made.rows[0].values, made.platforms)
             self.assertEqual((found.smaller, found.names), (smaller, names))
             self.assertEqual(sum(found.counts.values()), 4)

@@ -1,5 +1,6 @@
 """The library: its header, how it is found, and memory."""
 import ctypes
+import fnmatch
 import itertools
 import os
 import re
@@ -17,6 +18,7 @@ from cfgx import _error, _library, _targets
 
 PROJECT = os.path.join(HERE, "..", "pyproject.toml")
 HEADER = os.path.join(ROOT, "crates", "cfgx_c", "include", "cfgx.h")
+NAME = _library.NAME
 # Parses a text of 2.5 MB, and evaluates it with as much memory as is there and a little more.
 WITH_LITTLE_MEMORY = """
 import cfgx, resource
@@ -86,10 +88,10 @@ class Header(unittest.TestCase):
             self.assertEqual(getattr(_library, name), statuses[name])
 
     def test_version(self):
-        ours = {"LANGUAGE": 2, "MAJOR": 2, "MINOR": 0}
-        self.assertEqual({name: getattr(_library, name) for name in ours}, ours)
-        self.assertEqual(numbers_of("VERSION"), {**ours, "MINOR": 1})
-        self.assertRegex(cfgx.version(), r"^2\.2\.\d+$")
+        language, major, minor = numbers_of("VERSION").values()
+        self.assertEqual((_library.LANGUAGE, _library.MAJOR), (language, major))
+        self.assertLessEqual(_library.MINOR, minor)
+        self.assertRegex(cfgx.version(), rf"^{language}\.{major}\.\d+$")
 
     def test_structs(self):
         types = {ctypes.c_size_t: "size_t", ctypes.c_uint32: "uint32_t"}
@@ -128,14 +130,14 @@ class Finding(unittest.TestCase):
     """How the library is found."""
 
     def test_a_library_that_is_not_there(self):
-        run = python("import cfgx", CFGX_LIBRARY="/nowhere/libcfgx.so.2.2")
+        run = python("import cfgx", CFGX_LIBRARY="/nowhere/some.so")
         self.assertEqual(run.returncode, 1)
         line = run.stderr.decode().splitlines()[-1]
-        begin = "ImportError: cfgx cannot load /nowhere/libcfgx.so.2.2 ("
+        begin = "ImportError: cfgx cannot load /nowhere/some.so ("
         self.assertTrue(line.startswith(begin), line)
         folder = os.path.realpath(os.path.join(PACKAGE, "cfgx"))
         self.assertIn(f", and put it into {folder} or where the loader looks, or ", line)
-        self.assertTrue(line.endswith("let CFGX_LIBRARY name the file libcfgx.so.2.2"), line)
+        self.assertTrue(line.endswith(f"let CFGX_LIBRARY name the file {NAME}"), line)
 
     def test_another_library(self):
         for path in (sys.executable, __file__):
@@ -164,15 +166,18 @@ class Finding(unittest.TestCase):
         with tempfile.TemporaryDirectory() as folder:
             package = os.path.join(folder, "cfgx")
             shutil.copytree(os.path.join(PACKAGE, "cfgx"), package)
-            shutil.copy(_library.path_of(), os.path.join(package, "libcfgx.so.2.2"))
+            shutil.copy(_library.path_of(), os.path.join(package, NAME))
             run = python("import cfgx; print(cfgx._library.path_of())", folder)
-        self.assertEqual(run.stdout.decode(), f"{package}/libcfgx.so.2.2\n", run.stderr)
+        self.assertEqual(run.stdout.decode(), f"{package}/{NAME}\n", run.stderr)
 
     def test_a_library_that_the_loader_finds(self):
         with tempfile.TemporaryDirectory() as folder:
-            shutil.copy(_library.path_of(), os.path.join(folder, "libcfgx.so.2.2"))
-            run = python("import cfgx; print(cfgx._library.path_of())", LD_LIBRARY_PATH=folder)
-        self.assertEqual(run.stdout.decode(), "libcfgx.so.2.2\n", run.stderr)
+            shutil.copy(_library.path_of(), os.path.join(folder, NAME))
+            program = "import cfgx; print(cfgx._library.path_of())"
+            # An empty variable names no file.
+            for variables in ({}, {"CFGX_LIBRARY": ""}):
+                run = python(program, LD_LIBRARY_PATH=folder, **variables)
+                self.assertEqual(run.stdout.decode(), f"{NAME}\n", run.stderr)
 
 
 class Versions(unittest.TestCase):
@@ -186,13 +191,20 @@ class Versions(unittest.TestCase):
             return _library.load("some.so")
 
     def test_versions(self):
-        for number in (2002000, 2002007):
+        language, major, _ = numbers_of("VERSION").values()
+        oldest = language * 1000000 + major * 1000
+        for number in (oldest, oldest + 7):
             self.assertEqual(self.load(number).cfgx_version(), number)
-        for number, name in [(2003000, "2.3.0"), (2001999, "2.1.999"), (3002000, "3.2.0")]:
+        for number, name in [
+            (oldest + 1000, f"{language}.{major + 1}.0"),
+            (oldest - 1, f"{language}.{major - 1}.999"),
+            (oldest + 1000000, f"{language + 1}.{major}.0"),
+        ]:
             with self.assertRaises(ImportError) as caught:
                 self.load(number)
-            wanted = "cfgx needs version 2.2.0 of libcfgx.so.2.2 or a later 2.2, and some.so has"
-            self.assertEqual(str(caught.exception), f"{wanted} version {name}")
+            own = f"{language}.{major}"
+            wanted = f"cfgx needs version {own}.0 of libcfgx.so.{own} or a later {own}, and some.so"
+            self.assertEqual(str(caught.exception), f"{wanted} has version {name}")
 
 
 class Refusing:
@@ -301,6 +313,7 @@ class Memory(unittest.TestCase):
         rows = [
             ("cfgx_compile", lambda: cfgx.parse("a")),
             ("cfgx_compile", lambda: cfgx.flag("a")),
+            ("cfgx_check", lambda: _library.fault_of(b"a")),
             ("cfgx_explain", lambda: cfgx.parse("all(")),
             ("cfgx_apply", lambda: expression.eval([True, None])),
             ("cfgx_apply", lambda: expression.decide([True, None])),
@@ -344,8 +357,10 @@ class Project(unittest.TestCase):
 
     def test_its_files(self):
         numbers = numbers_of("VERSION")
-        self.assertEqual(_library.NAME, f"libcfgx.so.{numbers['LANGUAGE']}.{numbers['MAJOR']}")
-        self.assertEqual(self.fields("cfgx"), ["py.typed", _targets.NAME, _library.NAME])
+        self.assertEqual(NAME, f"libcfgx.so.{numbers['LANGUAGE']}.{numbers['MAJOR']}")
+        *files, library = self.fields("cfgx")
+        self.assertEqual(files, ["py.typed", _targets.NAME])
+        self.assertTrue(fnmatch.fnmatch(NAME, library), library)
         for name in ("py.typed", _targets.NAME):
             self.assertTrue(os.path.exists(os.path.join(PACKAGE, "cfgx", name)))
 

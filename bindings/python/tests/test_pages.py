@@ -5,11 +5,13 @@ import re
 import subprocess
 
 from . import ROOT, needs
+from . import test_budget
 from .made import Shell
 
 import cfgx
 import cfgx.manifest
 from cfgx import _command
+from cfgx.manifest import _cargo, _files, _flags, _search
 
 PAGE = os.path.join(ROOT, "docs", "PYTHON.md")
 README = os.path.join(ROOT, "README.md")
@@ -108,7 +110,26 @@ class Manifests(Shell):
         self.assertEqual(told, {
             "version", "manifest", "platforms", "dependencies", "notes", "package", "name",
             "renamed_from", "kind", "optional", "condition", "values", "unknown", "never", "fault",
+            "tried",
         })
+
+    def test_limits(self):
+        with open(MANIFESTS_PAGE, encoding="utf-8") as file:
+            text = " ".join(file.read().split("## Limits")[1].split("\n## ")[0].split())
+        told = [
+            f"regular files of at most {_files.MOST_BYTES:,} bytes",
+            f"At most {_flags.MOST_CONFIGURATIONS} of these are read",
+            f"It waits {_cargo.TIMEOUT:g} seconds",
+            f"print {_cargo.MOST_PRINTED >> 20} MiB", f"{_cargo.MOST_DATA >> 30} GiB of data",
+            f"{_search.BUDGET:,} evaluated predicates",
+            f"counts as {_search.BEGIN_EACH} for each predicate",
+            f"a try as {_search.TRY:,} and as {_search.TRY_EACH} for each predicate",
+            f"evaluation of the condition as {_search.CALL} and", f"is kept as {_search.KEPT}.",
+            f"a flag that is listed as {_search.LISTED},",
+            f"less than {test_budget.SECONDS} seconds of a processor",
+            f"and {test_budget.MEGABYTES} MB on 320 targets",
+        ]
+        self.assertEqual([one for one in told if one not in text], [])
 
 
 def load_tests(loader, tests, pattern):

@@ -2,6 +2,7 @@
 import os
 import re
 import unittest
+import unittest.mock
 
 from . import needs
 from .made import RUSTC, Folder, entry
@@ -15,6 +16,7 @@ LINUX, WINDOWS = "x86_64-unknown-linux-gnu", "x86_64-pc-windows-gnu"
 # the word.
 WORDS = [
     ("loom", "loom"), (" loom ", "loom"), ("r#loom", "loom"), ('a="b"', 'a="b"'),
+    ("r#true", "true"), (" r#false", "false"),
     ('a = "b"', 'a="b"'), ('r#a="x"', 'a="x"'), ('a="é, b"', 'a="é, b"'),
     ('feature=""', 'feature=""'),
     ("unix", "unix"), ('unix="x"', 'unix="x"'), ("target_has_atomic", "target_has_atomic"),
@@ -31,8 +33,10 @@ VARIABLES = [
      ["b", 'c="d e"']),
     ({"RUSTFLAGS": "--cfg a", "CARGO_ENCODED_RUSTFLAGS": ""}, []),
     ({"RUSTFLAGS": "-Dwarnings -L /x --cfg a -l b"}, ["a"]),
+    # Only a space divides arguments, and other white space belongs to them.
+    ({"RUSTFLAGS": "\t--cfg \na\n --cfg=k=\"d\te\"\t"}, ["a", 'k="d\te"']),
 ]
-TEXTS = ("a", "b", 'k = "v"', 'c = "d e"')
+TEXTS = ("a", "b", 'k = "v"', 'c = "d e"', 'k = "d\te"')
 # Arguments of rustc, and those of them that change facts.
 ARGUMENTS = [
     (["-C", "target-feature=+avx2"], ["-C target-feature=+avx2"]),
@@ -243,6 +247,27 @@ class Sources(Folder):
         self.assertEqual(compiler.lines("t", True), ["/", f"{kind} -O"])
         self.assertEqual(compiler.lines("t", False), ["/", kind])
 
+    def test_a_compiler_of_the_current_folder(self):
+        mark = os.path.join(self.folder, "mark")
+        self.write_program("here/rustc", f"#!/bin/sh\n: > {mark}\nexit 1\n")
+        self.write_program("tools/rustc", "#!/bin/sh\npwd\n")
+        before = os.getcwd()
+        self.addCleanup(os.chdir, before)
+        os.chdir(os.path.join(self.folder, "here"))
+        for path in (".:{}", ":{}", "{}:", "./:{}", "../here:{}", "{}"):
+            path = path.format(os.path.join(self.folder, "tools"))
+            with self.subTest(path=path), unittest.mock.patch.dict("os.environ", PATH=path):
+                self.assertEqual(cfgx.rustc_facts("t"), ["/"])
+                compiler = _platforms.Compiler(_platforms.Flags(), {})
+                self.assertEqual(compiler.lines("t", True), ["/"])
+        for path in (".", "", "here", "../here"):
+            with self.subTest(path=path), unittest.mock.patch.dict("os.environ", PATH=path):
+                with self.assertRaisesRegex(cfgx.RustcError, "rustc could not be run: "):
+                    cfgx.rustc_facts("t")
+                with self.assertRaisesRegex(manifest.CompilerError, "rustc could not be run: "):
+                    _platforms.Compiler(_platforms.Flags(), {}).host()
+        self.assertFalse(os.path.exists(mark))
+
     def test_compilers_that_fail(self):
         rows = [
             ("#!/nowhere\n", "could not be run: "),
@@ -280,9 +305,10 @@ class Sources(Folder):
                       "own/config.toml"):
             for text, wanted in rows:
                 path = self.write(place, text)
-                found = [one for one in _flags.configurations_with_flags(below, own)
+                found = [one for one in _flags.notes_on_configurations(below, own)
                          if one.startswith(self.folder)]
-                self.assertEqual(found, [path] if wanted else [])
+                note = f"{path} has rustflags, which are not read; --cfg says which flags are set"
+                self.assertEqual(found, [note] if wanted else [])
             os.remove(path)
 
 

@@ -6,6 +6,8 @@ from cfgx import manifest
 
 TARGET = "x86_64-pc-windows-gnu"
 MACRO = "[lib]\nproc-macro = true"
+# A part without unit tests, without documentation tests, and that is no benchmark.
+UNTESTED = "test = false\ndoctest = false\nbench = false"
 
 
 def each_kind(name):
@@ -36,7 +38,18 @@ PARTS = [
     ("macro-with-example", MACRO, ["src/lib.rs", "examples/one.rs"]),
     ("macro-with-bench", MACRO, ["src/lib.rs", "benches/one.rs"]),
     ("macro-with-all", MACRO, ["src/lib.rs", "src/main.rs", "tests/one.rs", "build.rs"]),
-    ("macro-untested", MACRO + "\ntest = false\ndoctest = false", ["src/lib.rs"]),
+    ("library-untested", f"[lib]\n{UNTESTED}", ["src/lib.rs"]),
+    ("binary-untested", f'[[bin]]\nname = "one"\n{UNTESTED}', ["src/bin/one.rs"]),
+    ("macro-untested", f"{MACRO}\n{UNTESTED}", ["src/lib.rs"]),
+    ("macro-untested-with-binary", f"{MACRO}\n{UNTESTED}", ["src/lib.rs", "src/main.rs"]),
+    ("untested-with-test", f"[lib]\n{UNTESTED}", ["src/lib.rs", "tests/one.rs"]),
+    ("untested-with-example", f"{MACRO}\n{UNTESTED}", ["src/lib.rs", "examples/one.rs"]),
+    ("untested-with-bench", f"[lib]\n{UNTESTED}", ["src/lib.rs", "benches/one.rs"]),
+    ("test-that-is-not-built", f'[lib]\n{UNTESTED}\n[[test]]\nname = "one"\ntest = false',
+     ["src/lib.rs", "tests/one.rs"]),
+    ("macro-with-test-that-is-not-built",
+     f'{MACRO}\n{UNTESTED}\n[[test]]\nname = "one"\ntest = false',
+     ["src/lib.rs", "tests/one.rs"]),
     ("test", "", ["tests/one.rs"]),
     ("script-that-is-not", 'build = false', ["src/lib.rs", "build.rs"]),
     ("example-that-is-a-macro", '[[example]]\nname = "one"\ncrate-type = ["proc-macro"]',
@@ -51,6 +64,8 @@ USES = {
     "user-without-script": [use("build-dependencies", "not-without-script")],
     "user-by-macro": [MACRO, use("dependencies", "used-by-macro"),
                       use("dev-dependencies", "used-by-test-of-macro")],
+    "user-by-untested-macro": [f"{MACRO}\n{UNTESTED}", use("dependencies", "used-by-untested"),
+                               use("dev-dependencies", "not-by-test-of-untested")],
     "user-by-library": [use("dependencies", "not-by-library"),
                         use("dev-dependencies", "not-by-test")],
     "used-by-script": [use("dependencies", "used-by-used"),
@@ -69,7 +84,8 @@ ALSO = [
     "not-on-windows", "used-on-unix", "not-without-script", "used-by-macro",
     "used-by-test-of-macro", "not-by-library", "not-by-test", "not-by-used",
     "not-by-test-of-used", "used-by-script-of-used", "used-if-asked", "used-by-other-name",
-    "not-by-used-without-script", "used-by-example", "used-by-dev-of-example",
+    "not-by-used-without-script", "used-by-example", "used-by-dev-of-example", "used-by-untested",
+    "not-by-test-of-untested",
 ]
 SCRIPTS = {"user-by-script", "used-by-used", "user-of-optional", "user-by-other-name"}
 
@@ -89,6 +105,25 @@ class UnitGraph(Folder):
         report = manifest.report(path, [TARGET])
         compared = self.assert_is_built(report, self.graph_of(path, TARGET))
         self.assertEqual(compared, len(PARTS) * 9 * 2)
+
+    def test_documentation_tests(self):
+        # `cargo build` does not build them, and a documentation test reads dev-dependencies.
+        for place, lines in enumerate(("[lib]", MACRO)):
+            path = self.write_package(f"p{place}", f"{lines}\ntest = false\nbench = false",
+                                      entry("dev-dependencies", "d", condition="cfg(unix)"))
+            report = manifest.report(path, ["host-tuple"], kinds=["dev"])
+            units = self.graph_of(path, report.platforms[0].triple, command=("test", "--doc"))
+            self.assertEqual(self.assert_is_built(report, units), 2)
+            self.assertIn(manifest.Value.YES, report.rows[0].values)
+
+    def test_a_reason_where_cargo_reads_nothing(self):
+        path = self.write_package("m", MACRO, entry("dependencies", "d", condition="cfg(loom)"),
+                                  entry("build-dependencies", "b", condition="cfg(loom)"))
+        for row in manifest.report(path, [TARGET]).rows:
+            self.assertEqual((row.values[1], row.unknown), (manifest.Value.NOT_READ, {}))
+        normal, build = manifest.report(path).rows
+        self.assertEqual((normal.values, list(normal.unknown)), ((manifest.Value.UNKNOWN,), [0]))
+        self.assertEqual((build.values, build.unknown), ((manifest.Value.NOT_READ,), {}))
 
     def test_without_a_target(self):
         path = self.write_parts()
@@ -115,7 +150,8 @@ class UnitGraph(Folder):
             and row.values[0] is manifest.Value.YES
         }
         named = {name for name in [*USES, *ALSO] if name.startswith("used")}
-        self.assertEqual(on_host, named | {"user-by-macro", "user-by-example"})
+        macros = {"user-by-macro", "user-by-example", "user-by-untested-macro"}
+        self.assertEqual(on_host, named | macros)
         # The other packages of the workspace say so too if they have no rows.
         for name in ("used-by-script", "not-on-windows"):
             rows = manifest.report(path, [TARGET], packages=[name]).rows

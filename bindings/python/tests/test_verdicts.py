@@ -1,18 +1,23 @@
 """The values of conditions, beside what Cargo builds."""
 import itertools
+import random
 import unittest.mock
 
 from . import needs
-from .made import Folder, entry
+from .made import KINDS, Folder, entry
+from .test_library import Counting
 
 import cfgx
-from cfgx import manifest
+from cfgx import _library, manifest
 from cfgx.manifest import Value, _conditions, _platforms
+from cfgx.manifest._search import Budget
 
 LINUX, WINDOWS, MUSL, PHONE = (
     "x86_64-unknown-linux-gnu", "x86_64-pc-windows-gnu", "x86_64-unknown-linux-musl",
     "aarch64-apple-ios",
 )
+# The lines of a library, and of a proc-macro.
+LIBRARIES = ("", "[lib]\nproc-macro = true")
 # What the engine refuses and Cargo accepts: a condition, its value on Linux, the flag that is its
 # text, and the characters at fault.
 REFUSED = [
@@ -45,15 +50,16 @@ ACCEPTED = [
     ('panic = "unwind"', True), ('target_abi = ""', True), ('feature = "é, all(x)"', False),
     ("any(loom, not(loom))", True), ("all(loom, r#loom, not(loom))", False),
 ]
-# Flags that RUSTFLAGS may set, conditions over them, and how many values lead to both.
+# Flags that RUSTFLAGS may set, and conditions over them, with how many flags an example needs that
+# leads to true, and one that leads to false.
 FLAGS = ("loom", "tokio_unstable", 'key="x"')
-UNKNOWN = [
-    "loom", "any(loom, tokio_unstable)", "all(loom, not(tokio_unstable))",
-    'any(all(loom, key = "x"), all(not(loom), not(key = "x")))',
-    'any(all(loom, not(loom)), all(tokio_unstable, not(key = "x")))',
-    'not(any(not(loom), all(tokio_unstable, key = "x"), windows))',
-    'all(any(loom, key = "x"), any(tokio_unstable, not(key = "x")))',
-]
+UNKNOWN = {
+    "loom": (1, 1), "any(loom, tokio_unstable)": (1, 2), "all(loom, not(tokio_unstable))": (2, 1),
+    'any(all(loom, key = "x"), all(not(loom), not(key = "x")))': (2, 2),
+    'any(all(loom, not(loom)), all(tokio_unstable, not(key = "x")))': (2, 2),
+    'not(any(not(loom), all(tokio_unstable, key = "x"), windows))': (2, 1),
+    'all(any(loom, key = "x"), any(tokio_unstable, not(key = "x")))': (2, 2),
+}
 EQUAL = [
     ("any(all(loom, unix), all(not(loom), unix))", True),
     ("any(all(loom, windows), all(not(loom), windows))", False),
@@ -70,6 +76,15 @@ def value_of(condition, *facts, **options):
     """Returns the values of a condition on a target with these facts."""
     condition = f"cfg({condition})"
     return _conditions.values_of([condition], [platform_with(*facts, **options)])[condition]
+
+
+def generated(chosen, depth):
+    """Returns a condition of some depth over four flags and two facts."""
+    if depth == 0 or chosen.random() < 0.3:
+        return chosen.choice(["a", "b", "c", 'k = "v"', "r#a", "unix", "windows", "true"])
+    function = chosen.choice(["all", "any", "not"])
+    count = 1 if function == "not" else chosen.randint(0, 4)
+    return f"{function}({', '.join(generated(chosen, depth - 1) for _ in range(count))})"
 
 
 class Conditions(unittest.TestCase):
@@ -93,11 +108,21 @@ class Conditions(unittest.TestCase):
         found = value_of("any(all(windows, a), all(unix, any(b, not(c))))", "unix")
         self.assertEqual(found.on, (None,))
         reason = found.unknown[0]
-        self.assertEqual(set(reason.flags), {"a", "b", "c"})
+        self.assertEqual(reason.flags, ("a", "b", "c"))
         self.assertEqual(reason.if_no, {"b": False, "c": True})
         self.assertIn(reason.if_yes, ({"b": True}, {"c": False}))
         closed = value_of("any(b, not(c))", is_open=False)
         self.assertEqual((closed.on, closed.unknown), ((True,), {}))
+
+    def test_flags_stand_once_in_one_order(self):
+        found = _conditions.values_of(
+            ["cfg(any(b, a, b))", "cfg(all(a, b))", 'cfg(not(any(b, a, k = "x")))'],
+            [platform_with()],
+        )
+        first, second, third = (values.unknown[0] for values in found.values())
+        self.assertEqual((first.flags, second.flags), (("a", "b"), ("a", "b")))
+        self.assertEqual(third.flags, ("a", "b", 'k="x"'))
+        self.assertEqual(list(third.if_yes), ["a", "b", 'k="x"'])
 
     def test_reasons_are_shared_by_platforms(self):
         platforms = [platform_with("unix"), platform_with("windows"), platform_with("unix")]
@@ -106,6 +131,33 @@ class Conditions(unittest.TestCase):
         self.assertEqual(values.on, (None, True, None))
         self.assertEqual(list(values.unknown), [0, 2])
         self.assertIs(values.unknown[0], values.unknown[2])
+        self.assertEqual(len(values.unknown), 2)
+        self.assertEqual(dict(values.unknown), values.unknown)
+        self.assertRaises(KeyError, lambda: values.unknown[1])
+        self.assertIn("(0, 2)", repr(values.unknown))
+
+    def test_platforms_that_answer_differently(self):
+        # Equal flags have equal answers, so it is true on Unix, and needs `b` on Windows.
+        condition = "cfg(any(all(unix, any(a, not(a))), all(windows, b)))"
+        facts = (["unix"], ["windows"], [], ["unix", "windows"], ["windows", "b"])
+        platforms = [platform_with(*one) for one in facts]
+        for order in itertools.permutations(range(len(facts))):
+            found = _conditions.values_of([condition], [platforms[place] for place in order])
+            values = found[condition]
+            wanted = (True, None, False, True, True)
+            self.assertEqual(values.on, tuple(wanted[place] for place in order))
+            [(place, reason)] = values.unknown.items()
+            self.assertEqual((order[place], reason.flags), (1, ("a", "b")))
+            self.assertEqual((reason.if_yes, reason.if_no), ({"b": True}, {"b": False}))
+
+    def test_platforms_with_and_without_other_flags(self):
+        condition = "cfg(any(unix, loom))"
+        rows = [(("unix",), True, True), (("unix",), False, True), ((), True, None),
+                ((), False, False), (("loom",), False, True), (("loom",), True, True)]
+        for order in itertools.permutations(rows):
+            platforms = [platform_with(*facts, is_open=is_open) for facts, is_open, _ in order]
+            found = _conditions.values_of([condition], platforms)[condition]
+            self.assertEqual(found.on, tuple(value for _, _, value in order))
 
     def test_many_flags(self):
         flags = [f"a{number}" for number in range(40)]
@@ -114,13 +166,38 @@ class Conditions(unittest.TestCase):
         self.assertEqual(reason.if_no, dict.fromkeys(flags, False))
         self.assertEqual(list(reason.if_yes.values()), [True])
 
+    def test_generated_conditions(self):
+        # A value is compared with those for each setting of four flags, and so are the examples.
+        chosen = random.Random(7)
+        conditions = [generated(chosen, 4) for _ in range(300)]
+        flags = ("a", "b", "c", 'k="v"')
+        settings = [dict(zip(flags, given))
+                    for given in itertools.product((False, True), repeat=len(flags))]
+        closed = [platform_with("unix", *(flag for flag in flags if setting[flag]), is_open=False)
+                  for setting in settings]
+        names = [f"cfg({one})" for one in conditions]
+        wanted = _conditions.values_of(names, closed)
+        found = _conditions.values_of(names, [platform_with("unix")])
+        unknown = 0
+        for name in names:
+            on, [value] = wanted[name].on, found[name].on
+            self.assertEqual((name, value), (name, on[0] if len(set(on)) == 1 else None))
+            for reason in found[name].unknown.values():
+                for value, example in ((True, reason.if_yes), (False, reason.if_no)):
+                    fitting = {on[place] for place, setting in enumerate(settings)
+                               if example.items() <= setting.items()}
+                    self.assertEqual((name, example, fitting), (name, example, {value}))
+                    unknown += 1
+        self.assertGreater(unknown, 100)
+
     def test_too_many_flags_to_try(self):
-        # The value is known, but only all answers to 30 flags show it.
-        differ = [f"any(all(a{n}, not(b{n})), all(not(a{n}), b{n}))" for n in range(15)]
+        # The value is known, but only all answers to 60 flags show it.
+        differ = [f"any(all(a{n}, not(b{n})), all(not(a{n}), b{n}))" for n in range(30)]
         found = value_of(f"all({', '.join(differ)}, any(x, not(x)), all(y, not(y)))")
         self.assertEqual(found.on, (None,))
         self.assertIsNone(found.unknown[0].if_yes)
-        self.assertEqual(len(found.unknown[0].flags), 32)
+        self.assertFalse(found.unknown[0].is_tried)
+        self.assertEqual(len(found.unknown[0].flags), 62)
 
     def test_too_many_platforms_to_try(self):
         # No answers make it true, and the last flags show it. Each platform has other facts.
@@ -129,14 +206,19 @@ class Conditions(unittest.TestCase):
         systems = [f'target_os = "{n}"' for n in range(40)]
         condition = f"cfg(all({', '.join(differ)}, any(x, not(x), {', '.join(systems)})))"
         platforms = [platform_with(system.replace(" ", "")) for system in systems]
-        whole = _conditions.Search._value
-        with unittest.mock.patch.object(_conditions.Search, "_value", autospec=True,
-                                        side_effect=whole) as value:
-            found = _conditions.values_of([condition], platforms)[condition]
+        counting = Counting()
+        with unittest.mock.patch.object(_library, "LIBRARY", counting):
+            found = _conditions.values_of([condition], platforms, Budget(10_000_000))[condition]
         self.assertEqual(found.on, (None,) * len(platforms))
         self.assertEqual({reason.if_yes for reason in found.unknown.values()}, {None})
-        least, most = _conditions.MOST_IN_ALL, _conditions.MOST_IN_ALL + 40 * len(platforms)
-        self.assertTrue(least <= value.call_count <= most, value.call_count)
+        # A try of these 90 predicates costs between four and five thousand.
+        tries = counting.names.count("cfgx_apply")
+        self.assertTrue(10_000_000 // 5000 < tries < 10_000_000 // 4000, tries)
+        # For one of them, the budget suffices.
+        left = Budget()
+        found = _conditions.values_of([condition], platforms[:1], left)[condition]
+        self.assertEqual((found.on, found.unknown), ((False,), {}))
+        self.assertGreater(left.left, 0)
 
     def test_triples(self):
         platforms = [_platforms.Platform(one, one, False, frozenset(), True)
@@ -157,27 +239,32 @@ class Conditions(unittest.TestCase):
 class UnitGraph(Folder):
     """What Cargo would build."""
 
-    def write_conditions(self, conditions):
-        """Writes a package with a dependency for each condition, and with a build-dependency."""
+    def write_conditions(self, conditions, *lines):
+        """Writes a package, which has these lines too, with a dependency of each kind for each
+        condition."""
         rows = enumerate(conditions)
-        return self.write_package("a", *(
-            entry(kind, f"{kind[0]}{number}", condition=f"cfg({condition})")
-            for number, condition in rows for kind in ("dependencies", "build-dependencies")
+        return self.write_package("a", *lines, *(
+            entry(kind, f"{letter}{number}", condition=f"cfg({condition})")
+            for number, condition in rows for letter, kind in zip("ndb", KINDS)
         ), sources=("src/lib.rs", "build.rs"))
 
     def test_conditions_on_targets(self):
         wanted = {**{text: value for text, value, _, _ in REFUSED}, **dict(ACCEPTED)}
-        path = self.write_conditions(wanted)
-        for triple in (LINUX, WINDOWS, MUSL, PHONE):
+        self.assertEqual(len(wanted), 51)
+        targets, compared = (LINUX, WINDOWS, MUSL, PHONE), 0
+        for library, triple in itertools.product(LIBRARIES, targets):
+            path = self.write_conditions(wanted, library)
             # Another compiler than that of the table may print other facts, as a nightly does.
             report = manifest.report(path, [triple], has_other_flags=False, asks_rustc=True)
-            self.assert_is_built(report, self.graph_of(path, triple))
-        report = manifest.report(path, [LINUX])
+            compared += self.assert_is_built(report, self.graph_of(path, triple))
+        # Each kind of dependency, on the host and on the target.
+        self.assertEqual(compared, len(LIBRARIES) * len(targets) * 51 * 3 * 2)
+        report = manifest.report(self.write_conditions(wanted), [LINUX], kinds=["normal", "dev"])
         values = {True: Value.YES, False: Value.NO, None: Value.UNKNOWN}
+        self.assertEqual(len(report.rows), 51 * 2)
         for row in report.rows:
-            if row.dependency.kind == "normal":
-                condition = list(wanted)[int(row.dependency.name[1:])]
-                self.assertEqual((condition, row.values[1]), (condition, values[wanted[condition]]))
+            condition = list(wanted)[int(row.dependency.name[1:])]
+            self.assertEqual((condition, row.values[1]), (condition, values[wanted[condition]]))
 
     def test_flags_that_are_texts(self):
         path = self.write_conditions(condition for condition, _, _, _ in REFUSED)
@@ -188,7 +275,8 @@ class UnitGraph(Folder):
                 path, targets, flags=flags, has_other_flags=False, asks_rustc=True
             )
             units = self.graph_of(path, *targets, RUSTFLAGS=rustflags)
-            self.assert_is_built(report, units)
+            compared = self.assert_is_built(report, units)
+            self.assertEqual(compared, len(REFUSED) * 3 * (1 + len(targets)))
 
     def test_examples(self):
         path = self.write_conditions([*UNKNOWN, *(condition for condition, _ in EQUAL)])
@@ -205,8 +293,15 @@ class UnitGraph(Folder):
         found = {row.dependency.condition[4:-1]: row.values[1] for row in report.rows}
         values = {condition: Value.YES if value else Value.NO for condition, value in EQUAL}
         self.assertEqual(found, {**dict.fromkeys(UNKNOWN, Value.UNKNOWN), **values})
-        # Each example holds for at least one setting of the three flags.
-        self.assertGreaterEqual(compared, 2 * len(UNKNOWN) + 8 * len(EQUAL))
+        named = {
+            row.dependency.condition[4:-1]: (len(reason.if_yes), len(reason.if_no))
+            for row in report.rows for reason in row.unknown.values()
+        }
+        self.assertEqual(named, UNKNOWN)
+        # A known value holds for all 8 settings of the flags. An example holds for each setting
+        # that agrees with it: for 4 if it names one flag, and for 2 if it names two.
+        self.assertEqual(compared, 3 * 8 + (4 + 4) + (4 + 2) + (2 + 4) + 2 * 2 + 2 * 2 + (2 + 4)
+                         + 2 * 2)
 
     def compare(self, row, built, setting):
         """Compares a row with one for a setting of the flags. Returns how many examples agree with

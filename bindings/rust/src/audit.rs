@@ -1,10 +1,17 @@
 //! The values of many conditions on many targets.
 
+mod lanes;
+mod questions;
+
 use crate::error::Reason;
 use crate::expr::Expression;
 use crate::ffi::{self, Fault, Texts};
+use lanes::{Lanes, WIDTH};
+use questions::Questions;
+use std::borrow::Borrow;
 use std::error::Error;
 use std::fmt;
+use std::iter::FusedIterator;
 use std::ops::Range;
 
 /// What is known about a target, such as the lines of `rustc --print cfg`.
@@ -80,8 +87,11 @@ impl Facts {
     /// assert_eq!(facts.iter().collect::<Vec<&str>>(), ["unix", "test"]);
     /// ```
     #[must_use]
-    pub fn iter(&self) -> impl DoubleEndedIterator<Item = &str> + ExactSizeIterator {
-        (0..self.len()).map(|number| self.get(number).unwrap_or_default())
+    pub fn iter(&self) -> FactIter<'_> {
+        FactIter {
+            facts: self,
+            left: 0..self.len(),
+        }
     }
 
     /// Returns the number of facts.
@@ -102,6 +112,59 @@ impl Facts {
     #[must_use]
     pub fn is_empty(&self) -> bool {
         self.texts.ends.is_empty()
+    }
+}
+
+/// The facts of a target in order, which [`Facts::iter`] returns.
+///
+/// ```
+/// use cfgx::Facts;
+///
+/// let facts = Facts::new(["unix", "test"]);
+/// assert_eq!((facts.iter().len(), facts.iter().next_back()), (2, Some("test")));
+/// ```
+#[derive(Clone, Debug)]
+pub struct FactIter<'a> {
+    facts: &'a Facts,
+    left: Range<usize>,
+}
+
+impl<'a> Iterator for FactIter<'a> {
+    type Item = &'a str;
+
+    fn next(&mut self) -> Option<&'a str> {
+        self.facts.get(self.left.next()?)
+    }
+
+    fn size_hint(&self) -> (usize, Option<usize>) {
+        self.left.size_hint()
+    }
+}
+
+impl<'a> DoubleEndedIterator for FactIter<'a> {
+    fn next_back(&mut self) -> Option<&'a str> {
+        self.facts.get(self.left.next_back()?)
+    }
+}
+
+impl ExactSizeIterator for FactIter<'_> {}
+
+impl FusedIterator for FactIter<'_> {}
+
+/// Does what [`Facts::iter`] does.
+///
+/// ```
+/// let facts = cfgx::Facts::new(["unix", "test"]);
+/// for fact in &facts {
+///     assert_eq!(fact.len(), 4);
+/// }
+/// ```
+impl<'a> IntoIterator for &'a Facts {
+    type Item = &'a str;
+    type IntoIter = FactIter<'a>;
+
+    fn into_iter(self) -> FactIter<'a> {
+        self.iter()
     }
 }
 
@@ -140,6 +203,7 @@ impl fmt::Debug for Facts {
 /// assert_eq!(value(Otherwise::False), Some(false));
 /// ```
 #[derive(Clone, Copy, Debug, Default, PartialEq, Eq, Hash)]
+#[non_exhaustive]
 pub enum Otherwise {
     /// It is false.
     False,
@@ -171,9 +235,10 @@ impl Audit {
     /// Returns the number of conditions.
     ///
     /// ```
-    /// use cfgx::{Facts, audit};
+    /// use cfgx::{Expression, Facts, audit};
     ///
-    /// assert_eq!(audit(&[], &[Facts::new(["unix"])]).unwrap().condition_count(), 0);
+    /// let conditions = ["unix", "windows"].map(|text| Expression::parse(text).unwrap());
+    /// assert_eq!(audit(conditions, [Facts::new(["unix"])]).unwrap().condition_count(), 2);
     /// ```
     #[must_use]
     pub fn condition_count(&self) -> usize {
@@ -183,9 +248,10 @@ impl Audit {
     /// Returns the number of targets.
     ///
     /// ```
-    /// use cfgx::{Facts, audit};
+    /// use cfgx::{Expression, Facts, audit};
     ///
-    /// assert_eq!(audit(&[], &[Facts::new(["unix"])]).unwrap().target_count(), 1);
+    /// let conditions = ["unix", "windows"].map(|text| Expression::parse(text).unwrap());
+    /// assert_eq!(audit(conditions, [Facts::new(["unix"])]).unwrap().target_count(), 1);
     /// ```
     #[must_use]
     pub fn target_count(&self) -> usize {
@@ -235,6 +301,25 @@ impl Audit {
         *row.get(target)
             .unwrap_or_else(|| panic!("no target has the number {target}"))
     }
+
+    /// Returns the value of the condition with the first number on the target with the second. If
+    /// there is no such condition or no such target, returns `None`. A value that is unknown is
+    /// `Some(None)`.
+    ///
+    /// ```
+    /// use cfgx::{Expression, Facts, audit};
+    ///
+    /// let conditions = ["unix", "test"].map(|text| Expression::parse(text).unwrap());
+    /// let values = audit(&conditions, [Facts::new(["unix"])]).unwrap();
+    /// assert_eq!(values.get(0, 0), Some(Some(true)));
+    /// assert_eq!(values.get(1, 0), Some(None));
+    /// assert_eq!((values.get(2, 0), values.get(0, 1)), (None, None));
+    /// ```
+    #[must_use]
+    pub fn get(&self, condition: usize, target: usize) -> Option<Option<bool>> {
+        let is_there = condition < self.condition_count && target < self.target_count;
+        is_there.then(|| self.value(condition, target))
+    }
 }
 
 /// A fact that is no condition. A fact that no condition can ask is not faulty, such as
@@ -242,15 +327,20 @@ impl Audit {
 ///
 /// ```
 /// use cfgx::error::Reason;
-/// use cfgx::{Facts, audit};
+/// use cfgx::{Expression, Facts, audit};
 ///
+/// let condition = Expression::parse("unix").unwrap();
 /// let targets = [Facts::new(["unix"]), Facts::new(["windows", "?all("])];
-/// let error = audit(&[], &targets).unwrap_err();
+/// let error = audit([condition], &targets).unwrap_err();
 /// assert_eq!((error.target, error.number), (1, 1));
 /// assert_eq!((error.reason, error.span.clone()), (Reason::UnclosedParens, 4..5));
-/// assert_eq!(error.to_string(), "fact 1 of target 1 is faulty: ?all(");
+/// assert_eq!(
+///     error.to_string(),
+///     "fact 1 of target 1 is faulty in bytes 4..5: unclosed parens: ?all("
+/// );
 /// ```
 #[derive(Clone, Debug, PartialEq, Eq)]
+#[non_exhaustive]
 pub struct FactError {
     /// The number of the target, from 0 on.
     pub target: usize,
@@ -268,8 +358,8 @@ impl fmt::Display for FactError {
     fn fmt(&self, f: &mut fmt::Formatter<'_>) -> fmt::Result {
         write!(
             f,
-            "fact {} of target {} is faulty: {}",
-            self.number, self.target, self.fact
+            "fact {} of target {} is faulty in bytes {:?}: {}: {}",
+            self.number, self.target, self.span, self.reason, self.fact
         )
     }
 }
@@ -278,6 +368,10 @@ impl Error for FactError {}
 
 /// Returns the value of each condition on each target. A predicate that no fact names is false if
 /// it tests the target, and unknown otherwise.
+///
+/// No condition is parsed again: each different predicate is asked once about 64 targets. The memory
+/// is in proportion to the texts of the conditions, to those of the facts of 64 targets, and to the
+/// number of values.
 ///
 /// # Errors
 ///
@@ -292,7 +386,13 @@ impl Error for FactError {}
 /// assert_eq!(values.row(0), [None, Some(true)]);
 /// # Ok::<(), cfgx::FactError>(())
 /// ```
-pub fn audit(conditions: &[Expression], targets: &[Facts]) -> Result<Audit, FactError> {
+pub fn audit<C, T>(conditions: C, targets: T) -> Result<Audit, FactError>
+where
+    C: IntoIterator,
+    C::Item: Borrow<Expression>,
+    T: IntoIterator,
+    T::Item: Borrow<Facts>,
+{
     audit_with(conditions, targets, Otherwise::Unknown)
 }
 
@@ -307,48 +407,109 @@ pub fn audit(conditions: &[Expression], targets: &[Facts]) -> Result<Audit, Fact
 /// use cfgx::{Expression, Facts, Otherwise, audit_with};
 ///
 /// let conditions = [Expression::parse("not(test)").unwrap()];
-/// let values = audit_with(&conditions, &[Facts::new(["unix"])], Otherwise::False)?;
+/// let values = audit_with(&conditions, [Facts::new(["unix"])], Otherwise::False)?;
 /// assert_eq!(values.row(0), [Some(true)]);
 /// # Ok::<(), cfgx::FactError>(())
 /// ```
-pub fn audit_with(
-    conditions: &[Expression],
-    targets: &[Facts],
-    otherwise: Otherwise,
-) -> Result<Audit, FactError> {
-    let mut texts = Texts::default();
-    for condition in conditions {
-        texts.push(condition.original());
-    }
-    let mut facts = Texts::default();
-    let mut target_ends = Vec::with_capacity(targets.len());
-    for target in targets {
-        facts.append(&target.texts);
-        target_ends.push(facts.ends.len());
-    }
-    let otherwise = match otherwise {
-        Otherwise::False => Some(false),
-        Otherwise::Unknown => None,
+pub fn audit_with<C, T>(conditions: C, targets: T, otherwise: Otherwise) -> Result<Audit, FactError>
+where
+    C: IntoIterator,
+    C::Item: Borrow<Expression>,
+    T: IntoIterator,
+    T::Item: Borrow<Facts>,
+{
+    let conditions: Vec<C::Item> = conditions.into_iter().collect();
+    let conditions: Vec<&Expression> = conditions.iter().map(Borrow::borrow).collect();
+    let targets: Vec<T::Item> = targets.into_iter().collect();
+    let questions = Questions::of(conditions.iter().copied());
+    let mut audit = Audit {
+        values: vec![None; conditions.len().saturating_mul(targets.len())],
+        condition_count: conditions.len(),
+        target_count: targets.len(),
     };
-    match ffi::audit(&texts, &facts, &target_ends, otherwise) {
-        Ok(values) => Ok(Audit {
-            values,
-            condition_count: conditions.len(),
-            target_count: targets.len(),
-        }),
-        Err(fault) => Err(fact_error(targets, &target_ends, &fault)),
+    for (block, some) in targets.chunks(WIDTH).enumerate() {
+        let facts = FactLists::of(block * WIDTH, some.iter().map(Borrow::borrow));
+        let answers = facts.answers(&questions, otherwise)?;
+        for (row, condition) in conditions.iter().enumerate() {
+            let values = value_over(condition, questions.asked_by(row), &answers);
+            audit.put(row, &facts, values);
+        }
+    }
+    Ok(audit)
+}
+
+/// The facts of up to 64 targets, one after another.
+struct FactLists {
+    /// The number of targets before these
+    before: usize,
+    texts: Texts,
+    /// The number of facts up to the end of each target
+    target_ends: Vec<usize>,
+}
+
+impl FactLists {
+    /// Returns the facts of targets, with this number of targets before them.
+    fn of<'a>(before: usize, targets: impl Iterator<Item = &'a Facts>) -> Self {
+        let mut lists = FactLists {
+            before,
+            texts: Texts::default(),
+            target_ends: Vec::new(),
+        };
+        for target in targets {
+            lists.texts.append(&target.texts);
+            lists.target_ends.push(lists.texts.ends.len());
+        }
+        lists
+    }
+
+    /// Returns the answers of the targets to each different predicate.
+    fn answers(
+        &self,
+        questions: &Questions<'_>,
+        otherwise: Otherwise,
+    ) -> Result<Vec<Lanes>, FactError> {
+        let otherwise = match otherwise {
+            Otherwise::False => Some(false),
+            Otherwise::Unknown => None,
+        };
+        let found = ffi::audit(&questions.texts, &self.texts, &self.target_ends, otherwise);
+        let found = found.map_err(|fault| self.error_of(&fault))?;
+        let rows = found.chunks(self.target_ends.len());
+        Ok(rows.map(|row| Lanes::new(row.iter())).collect())
+    }
+
+    /// Returns the error of the fact that has this fault.
+    fn error_of(&self, fault: &Fault) -> FactError {
+        let target = self.target_ends.partition_point(|end| *end <= fault.item);
+        let before = target.checked_sub(1);
+        let first = before.map_or(0, |before| self.target_ends[before]);
+        FactError {
+            target: self.before + target,
+            number: fault.item - first,
+            fact: self.texts.get(fault.item).unwrap_or_default().to_string(),
+            reason: Reason::new(fault),
+            span: fault.offset + fault.start..fault.offset + fault.end,
+        }
     }
 }
 
-/// Returns the error of the fact that has this fault.
-fn fact_error(targets: &[Facts], target_ends: &[usize], fault: &Fault) -> FactError {
-    let target = target_ends.partition_point(|end| *end <= fault.item);
-    let number = fault.item + targets[target].len() - target_ends[target];
-    FactError {
-        target,
-        number,
-        fact: targets[target].get(number).unwrap_or_default().to_string(),
-        reason: Reason::new(fault),
-        span: fault.offset + fault.start..fault.offset + fault.end,
+impl Audit {
+    /// Puts the values of a condition on these targets.
+    fn put(&mut self, condition: usize, targets: &FactLists, values: Lanes) {
+        let start = condition * self.target_count + targets.before;
+        let places = &mut self.values[start..start + targets.target_ends.len()];
+        for (place, value) in places.iter_mut().zip(values.values()) {
+            *place = value;
+        }
     }
+}
+
+/// Returns the values of a condition over the answers to all predicates. It asks those with these
+/// numbers.
+fn value_over(condition: &Expression, asked: &[usize], answers: &[Lanes]) -> Lanes {
+    let mut numbers = asked.iter();
+    condition.eval(|_| {
+        let number = numbers.next().expect("each predicate is asked once");
+        answers[*number]
+    })
 }

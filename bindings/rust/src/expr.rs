@@ -9,11 +9,12 @@ mod stack;
 use crate::error::ParseError;
 use crate::ffi;
 pub use logic::Logic;
-use node::{Node, Nodes};
+use node::{Asked, FewNodes, Nodes, Packed, Step};
 pub use predicate::{Predicate, TargetMatcher, TargetPredicate};
-use stack::Stack;
+use stack::{Slot, Slots, Stack};
 use std::fmt;
 use std::hash::{Hash, Hasher};
+use std::mem;
 use std::str::FromStr;
 
 /// A parsed condition.
@@ -63,7 +64,7 @@ pub enum Func {
 ///
 /// let expression = Expression::parse("all(a, not(b))").unwrap();
 /// let decision = expression.decide(|_| None);
-/// let Decision::Unknown { if_true, if_false } = decision else {
+/// let Decision::Unknown { if_true, if_false, .. } = decision else {
 ///     panic!("nothing is known")
 /// };
 /// // The predicate below `not` is asked first.
@@ -71,11 +72,13 @@ pub enum Func {
 /// assert_eq!(if_false, [true, false]);
 /// ```
 #[derive(Clone, Debug, PartialEq, Eq)]
+#[non_exhaustive]
 pub enum Decision {
     /// The value, whatever the unknown answers are
     Known(bool),
     /// The value depends on the unknown answers, as two fillings show. A filling has one truth
     /// value for each answer, in order. For a known answer it is that answer
+    #[non_exhaustive]
     Unknown {
         /// A filling with which the condition is true
         if_true: Vec<bool>,
@@ -103,14 +106,22 @@ impl Expression {
     /// assert!(Expression::parse("all(unix").is_err());
     /// ```
     pub fn parse(text: &str) -> Result<Self, ParseError> {
-        let mut nodes = Nodes::new();
-        match ffi::compile(text, |steps, asked| nodes.fill(text, steps, asked)) {
-            Ok(()) => Ok(Expression {
+        ffi::compile(text, |compiled| match compiled {
+            // One kind of nodes after another: so each is made in its place, and is not copied.
+            Ok(([_], [only])) => Ok(Expression {
                 text: text.into(),
-                nodes,
+                nodes: Nodes::One(Asked::new(text, only)),
+            }),
+            Ok((steps, predicates)) if node::are_few(steps, predicates) => Ok(Expression {
+                text: text.into(),
+                nodes: Nodes::Few(FewNodes::new(text, steps, predicates)),
+            }),
+            Ok((steps, predicates)) => Ok(Expression {
+                text: text.into(),
+                nodes: Nodes::many(text, steps, predicates),
             }),
             Err(fault) => Err(ParseError::new(text, &fault)),
-        }
+        })
     }
 
     /// Returns the text without an outer `cfg( )`.
@@ -144,8 +155,8 @@ impl Expression {
     /// );
     /// ```
     pub fn predicates(&self) -> impl Iterator<Item = Predicate<'_>> {
-        let nodes = self.nodes.as_slice().iter();
-        nodes.filter_map(|node| node.asked(&self.text))
+        let asked = self.nodes.asked().iter();
+        asked.map(|one| one.predicate(&self.text))
     }
 
     /// Evaluates the condition over what `eval_predicate` answers to its predicates.
@@ -153,8 +164,8 @@ impl Expression {
     /// Each occurrence of a predicate is asked once, in the order of
     /// [`predicates`](Expression::predicates). The members of `all` are joined by `and` to `top`,
     /// and those of `any` by `or` to `bottom`: from the last back, first the predicates and
-    /// literals of the list, and then its functions. A list is joined as soon as its last predicate
-    /// was asked.
+    /// literals of the list, and then its functions. All predicates are asked before the first
+    /// values are joined.
     ///
     /// ```
     /// use cfgx::{Expression, Predicate};
@@ -171,21 +182,23 @@ impl Expression {
         EP: FnMut(&Predicate<'_>) -> T,
         T: Logic,
     {
-        let mut stack = Stack::<T>::new();
-        for node in self.nodes.as_slice() {
-            let value = match *node {
-                Node::Known(predicate) => eval_predicate(predicate),
-                Node::Borrowed(kind, span) => eval_predicate(&kind.predicate(span, &self.text)),
-                Node::Unnamed(field, span) => eval_predicate(&field.predicate(span, &self.text)),
-                Node::True => T::top(),
-                Node::False => T::bottom(),
-                Node::Not => stack.pop().not(),
-                Node::All(count) => (0..count).fold(T::top(), |value, _| value.and(stack.pop())),
-                Node::Any(count) => (0..count).fold(T::bottom(), |value, _| value.or(stack.pop())),
-            };
-            stack.push(value);
+        let text = &self.text;
+        match &self.nodes {
+            Nodes::One(asked) => asked.answer(text, &mut eval_predicate),
+            Nodes::Few(nodes) => {
+                let mut answers = [const { Slot::Empty }; node::FEW];
+                let answers = &mut answers[..nodes.asked().len()];
+                ask_each(nodes.asked(), text, answers, &mut eval_predicate);
+                let mut slots = [const { Slot::Empty }; node::FEW];
+                value_over(nodes.steps(), answers, &mut slots)
+            }
+            Nodes::Many { asked, steps } => {
+                let mut answers = Slots::new(asked.len());
+                let answers = answers.first(asked.len());
+                ask_each(asked, text, answers, &mut eval_predicate);
+                value_over(steps, answers, Slots::new(steps.len()).first(steps.len()))
+            }
         }
-        stack.pop()
     }
 
     /// Decides the condition over answers of which some may be unknown: returns its value, or two
@@ -211,16 +224,68 @@ impl Expression {
     where
         EP: FnMut(&Predicate<'_>) -> Option<bool>,
     {
-        let answers = self.predicates().map(|asked| eval_predicate(&asked));
-        let answers: Vec<Option<bool>> = answers.collect();
-        match ffi::decide(self.original(), &answers) {
-            (Some(value), _) => Decision::Known(value),
-            (None, mut if_true) => {
-                let if_false = if_true.split_off(answers.len());
-                Decision::Unknown { if_true, if_false }
-            }
+        let mut answers = Vec::new();
+        let value = self.eval(|predicate| {
+            let answer = eval_predicate(predicate);
+            answers.push(answer);
+            answer
+        });
+        match value {
+            Some(value) => Decision::Known(value),
+            None => self.fillings_of(&answers),
         }
     }
+
+    /// Returns the fillings of these answers, over which the value is unknown. What stands below an
+    /// even number of `not` can only make the condition true where it is true itself.
+    fn fillings_of(&self, answers: &[Option<bool>]) -> Decision {
+        let signs = self.nodes.signs();
+        let filled = |is_true| {
+            let pairs = answers.iter().zip(&signs);
+            pairs.map(move |(answer, sign)| answer.unwrap_or(*sign == is_true))
+        };
+        Decision::Unknown {
+            if_true: filled(true).collect(),
+            if_false: filled(false).collect(),
+        }
+    }
+}
+
+/// Asks each predicate for its answer, and puts it into its slot.
+#[inline]
+fn ask_each<EP, T>(asked: &[Asked], text: &str, slots: &mut [Slot<T>], eval_predicate: &mut EP)
+where
+    EP: FnMut(&Predicate<'_>) -> T,
+{
+    for (slot, one) in slots.iter_mut().zip(asked) {
+        *slot = Slot::Leaf(one.answer(text, eval_predicate));
+    }
+}
+
+/// Returns the value of steps over the answers, each of which is taken. The steps are read from the
+/// last to the first, so a function finds the values of its members in the slots.
+fn value_over<T: Logic>(
+    steps: &[impl Packed],
+    answers: &mut [Slot<T>],
+    slots: &mut [Slot<T>],
+) -> T {
+    if steps.len() == answers.len() + 1 {
+        // All steps but one ask, so this one is first, and the answers are its members in order.
+        if let Step::Function(func) = steps[0].unpack() {
+            return Stack::of(answers).apply(func);
+        }
+    }
+    let mut stack = Stack::new(slots);
+    for step in steps.iter().rev() {
+        let value = match step.unpack() {
+            Step::Ask(number) => mem::take(&mut answers[number]),
+            Step::Literal(true) => Slot::Leaf(T::top()),
+            Step::Literal(false) => Slot::Leaf(T::bottom()),
+            Step::Function(func) => Slot::Function(stack.apply(func)),
+        };
+        stack.push(value);
+    }
+    stack.pop()
 }
 
 impl FromStr for Expression {

@@ -7,11 +7,7 @@
 //! this call alone, and it does not read that first, so a buffer may be uninitialized. The structs
 //! are those of the header, and any bytes are a value of their fields.
 
-pub(crate) mod numbers;
-#[cfg(test)]
-mod tests;
-
-use numbers::{
+use crate::numbers::{
     STATUS_DONE, STATUS_FAULTY, STATUS_FAULTY_FACT, STATUS_OUT_OF_MEMORY, VALUE_FALSE, VALUE_TRUE,
     VALUE_UNKNOWN, VERSION_LANGUAGE, VERSION_MAJOR, VERSION_MINOR,
 };
@@ -52,7 +48,7 @@ pub(crate) struct Predicate {
 #[repr(C)]
 pub(crate) struct Step {
     pub(crate) kind: u32,
-    pub(crate) count: usize,
+    pub(crate) number: usize,
 }
 
 /// A token of a text: `struct cfgx_token`.
@@ -115,18 +111,6 @@ unsafe extern "C" {
         fault: *mut Fault,
     ) -> u32;
 
-    fn cfgx_decide(
-        text: *const u8,
-        text_length: usize,
-        answers: *const u8,
-        answer_count: usize,
-        fillings: *mut u8,
-        room: usize,
-        needed: *mut usize,
-        value: *mut u8,
-        fault: *mut Fault,
-    ) -> u32;
-
     fn cfgx_audit(
         texts: *const u8,
         texts_length: usize,
@@ -182,28 +166,35 @@ fn fault_of(status: u32, fault: Fault, size: usize) -> Fault {
 /// The number of steps for which a text takes no memory here. Most conditions have no more.
 const FEW_STEPS: usize = 128;
 
-/// Passes the steps and the predicates of a text to `read`, and returns what it returns. Returns
-/// the fault of the text if it is no condition.
+/// Passes the steps and the predicates of a text to `read`, or the fault of a text that is no
+/// condition. Returns what it returns, which is not copied on its way.
 #[inline]
 pub(crate) fn compile<R>(
     text: &str,
-    read: impl FnOnce(&[Step], &[Predicate]) -> R,
-) -> Result<R, Fault> {
+    read: impl FnOnce(Result<(&[Step], &[Predicate]), Fault>) -> R,
+) -> R {
     ensure_version();
-    let mut few_steps = [const { MaybeUninit::uninit() }; FEW_STEPS];
-    let mut few_predicates = [const { MaybeUninit::uninit() }; FEW_STEPS];
-    let (mut many_steps, mut many_predicates) = (Vec::new(), Vec::new());
     let room = most_steps(text);
-    let (steps, predicates) = if room <= FEW_STEPS {
-        (&mut few_steps[..], &mut few_predicates[..])
-    } else {
-        many_steps.reserve_exact(room);
-        many_predicates.reserve_exact(room);
-        let steps = many_steps.spare_capacity_mut();
-        (steps, many_predicates.spare_capacity_mut())
-    };
-    let (steps, predicates) = compile_into(text, steps, predicates)?;
-    Ok(read(steps, predicates))
+    if room > FEW_STEPS {
+        return compile_many(text, room, read);
+    }
+    let mut steps = [const { MaybeUninit::uninit() }; FEW_STEPS];
+    let mut predicates = [const { MaybeUninit::uninit() }; FEW_STEPS];
+    read(compile_into(text, &mut steps, &mut predicates))
+}
+
+/// Does what `compile` does, with memory for `room` steps.
+#[cold]
+fn compile_many<R>(
+    text: &str,
+    room: usize,
+    read: impl FnOnce(Result<(&[Step], &[Predicate]), Fault>) -> R,
+) -> R {
+    let (mut steps, mut predicates) = (Vec::new(), Vec::new());
+    steps.reserve_exact(room);
+    predicates.reserve_exact(room);
+    let steps = steps.spare_capacity_mut();
+    read(compile_into(text, steps, predicates.spare_capacity_mut()))
 }
 
 /// Returns the steps and the predicates of a text, or its fault if it is no condition. Panics if
@@ -237,12 +228,21 @@ fn compile_into<'a>(
     Ok(unsafe { (filled(steps), filled(predicates)) })
 }
 
-/// Returns a number of steps that a condition with this text does not exceed. It has a step for
-/// each predicate, literal and function, and each of these has a word. One of them is the whole
-/// condition, and each other one stands behind a comma or an opening parenthesis.
+/// Returns a number of steps that a condition with this text does not exceed: it has one, and at
+/// most one more for each comma and each opening parenthesis among its tokens. This is a law,
+/// `steps_are_few` in `crates/cfg_expr/src/expr/laws.rt`. It has no more predicates than steps.
 #[inline]
 fn most_steps(text: &str) -> usize {
-    if text.len() < 2 * FEW_STEPS || marks_in(text) < FEW_STEPS {
+    if text.len() < 2 * FEW_STEPS {
+        return FEW_STEPS;
+    }
+    most_steps_of_long(text)
+}
+
+/// Does what `most_steps` does, for a text that may have more than a few.
+#[inline(never)]
+fn most_steps_of_long(text: &str) -> usize {
+    if marks_in(text) < FEW_STEPS {
         return FEW_STEPS;
     }
     // What stands in values does not count. They have no escapes, so every second piece is one.
@@ -281,35 +281,6 @@ fn value_of(byte: u8) -> Option<bool> {
         VALUE_TRUE => Some(true),
         _ => None,
     }
-}
-
-/// Returns the value of a condition over as many answers as it has predicates, and the two fillings
-/// one behind the other, which are empty if the value is known.
-pub(crate) fn decide(text: &str, answers: &[Option<bool>]) -> (Option<bool>, Vec<bool>) {
-    let answers: Vec<u8> = answers.iter().copied().map(byte_of).collect();
-    let mut fillings = vec![0; 2 * answers.len()];
-    let (mut needed, mut value, mut fault) = (0, 0, Fault::default());
-    // SAFETY: the slices, the count, the value and the fault are as the head of this module says.
-    let status = unsafe {
-        cfgx_decide(
-            text.as_ptr(),
-            text.len(),
-            answers.as_ptr(),
-            answers.len(),
-            fillings.as_mut_ptr(),
-            fillings.len(),
-            &mut needed,
-            &mut value,
-            &mut fault,
-        )
-    };
-    if status != STATUS_DONE {
-        let fault = fault_of(status, fault, text.len());
-        unreachable!("the text is a condition: {fault:?}");
-    }
-    fillings.truncate(needed);
-    let fillings = fillings.into_iter().map(|byte| byte != 0).collect();
-    (value_of(value), fillings)
 }
 
 /// Returns the value of each condition on each target, or the fault of the first faulty fact. Each

@@ -1,17 +1,18 @@
 //! Conditions of `#[cfg(..)]`, such as `all(unix, feature = "x")`: parses them, lists their
 //! predicates and evaluates them.
 //!
-//! This crate has the names and signatures of [`cfg-expr`](https://docs.rs/cfg-expr/0.20), but for
-//! the table in `docs/RUST.md` of its repository. If none of these differences matters to a program,
-//! it changes one line of its manifest, in which `../cfgx` stands for the folder of the repository:
+//! This crate has the names and signatures of [`cfg-expr`](https://docs.rs/cfg-expr/0.20) 0.20.10,
+//! but for the table [below](#what-differs). If none of these differences matters to a program, it
+//! changes one line of its manifest, in which `../cfgx` stands for the folder of the repository:
 //!
 //! ```toml
 //! cfg-expr = { package = "cfgx", path = "../cfgx/bindings/rust" }
 //! ```
 //!
-//! The crate calls an engine that is proved: [`Expression::parse`], [`Expression::decide`],
-//! [`audit()`] and [`Lexer`](expr::lexer::Lexer) get their results from it. [`Expression::eval`] is
-//! code of this crate, which is tested, and not proved.
+//! The crate calls an engine that is proved: [`Expression::parse`] and
+//! [`Lexer`](expr::lexer::Lexer) get their results from it, and [`audit()`] the answers of targets.
+//! [`Expression::eval`] and [`Expression::decide`] are code of this crate, which is tested, and not
+//! proved.
 //!
 //! ```
 //! use cfgx as cfg_expr;
@@ -30,6 +31,15 @@
 //! [`builtin_facts`](targets::builtin_facts),
 //! [`TargetInfo::from_rustc_cfg`](targets::TargetInfo::from_rustc_cfg) and
 //! [`Rustc`](targets::Rustc).
+//!
+//! # What differs
+//!
+#![doc = include_str!("differences.txt")]
+//!
+//! # The feature `targets`
+//!
+//! With it, this crate passes on the crate `target_lexicon`, and its triples are targets. Without
+//! it, which is the default, Cargo neither locks nor compiles that crate.
 //!
 //! # Memory
 //!
@@ -51,18 +61,18 @@ pub mod error;
 pub mod expr;
 #[allow(unsafe_code)]
 mod ffi;
+#[cfg(feature = "target-lexicon")]
+mod lexicon;
+mod numbers;
 pub mod targets;
 
-pub use audit::{Audit, FactError, Facts, Otherwise, audit, audit_with};
+pub use audit::{Audit, FactError, FactIter, Facts, Otherwise, audit, audit_with};
 pub use error::ParseError;
 pub use expr::{Decision, Expression, Predicate, TargetPredicate};
+#[cfg(feature = "target-lexicon")]
+pub use lexicon::target_lexicon;
 
 /// The example of the README, which is tested as those of the documentation are.
 #[cfg(doctest)]
 #[doc = include_str!("../README.md")]
 struct Readme;
-
-/// The example of `docs/RUST.md`, which is tested too.
-#[cfg(doctest)]
-#[doc = include_str!("../../../docs/RUST.md")]
-struct Page;

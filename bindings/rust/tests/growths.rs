@@ -164,6 +164,9 @@ fn bytes_named(name: &str, granted: usize) -> Option<usize> {
     Some(bytes.parse().unwrap())
 }
 
+/// The number of bytes of a token in C: a kind, which is padded, a start and an end.
+const TOKEN: usize = 3 * size_of::<usize>();
+
 /// Each call, and a number of bytes that is named if a growth is refused: if it is one of the
 /// library, that of the text or of the facts which the library was passed. `None` if the call takes
 /// no memory.
@@ -171,10 +174,12 @@ const CALLS: &[(&str, Option<usize>)] = &[
     ("parse", Some(CONDITION.len())),
     ("parse a faulty text", Some(FAULTY.len())),
     ("parse a long text", Some(2 * MEMBERS + 5)),
-    ("list tokens", Some(CONDITION.len())),
+    // The library takes no memory for tokens. The crate first has room for 64 of them.
+    ("list tokens", Some(64 * TOKEN)),
     ("list tokens up to a fault", Some(UNCLOSED.len())),
-    ("list many tokens", Some(2 * MEMBERS + 5)),
-    ("decide", Some(CONDITION.len() - 5)),
+    ("list many tokens", Some((2 * MEMBERS + 3) * TOKEN)),
+    // The crate decides by itself: a filling has a byte for each predicate.
+    ("decide", Some(3)),
     ("audit", Some(PASSED_OVER.len() + 6)),
     ("audit_with", Some(PASSED_OVER.len() + 6)),
     ("audit over a faulty fact", Some(13)),

@@ -12,7 +12,7 @@ None
 
 `None` is an unknown answer, and an unknown value.
 
-The package calls the engine in the shared object `libcfgx.so.2.2`, which it loads when it is
+The package calls the engine in the shared object `libcfgx.so.2.3`, which it loads when it is
 imported: the file that the environment variable `CFGX_LIBRARY` names, else the one in the folder of
 the package, else the one that the loader finds. `ImportError` says what to do if there is none.
 `__version__` is the version of the package, and `version()` that of the library.
@@ -25,6 +25,8 @@ it between two calls. Nothing may call from a signal handler itself, as native c
 child of a fork if its parent had threads. `os.fork` makes such a child, and so does
 `multiprocessing` if it starts processes by `fork`, but not by `spawn` or `forkserver`.
 """
+__version__ = "2.3.0"
+
 from ._audit import audit
 from ._error import FactError, ParseError, Reason, RustcError
 from ._expression import Decision, Expression, Kind, Predicate, parse
@@ -37,7 +39,6 @@ from ._predicates import (
 )
 from ._targets import rustc_version, target_facts, targets
 
-__version__ = "2.2.1"
 __all__ = [
     "Decision", "Expression", "FactError", "Kind", "ParseError", "Predicate", "Reason",
     "RustcError", "audit", "debug_assertions", "feature", "flag", "key_value", "panic", "parse",

@@ -49,4 +49,6 @@ def audit(
         raise fact_error(place, fault.item - first, facts[fault.item], fault)
     if status == _library.FAULTY:
         raise parse_error(texts[fault.item], encoded[fault.item], fault)
-    return [values[row * len(ends):(row + 1) * len(ends)] for row in range(len(texts))]
+    count = len(ends)
+    rows = (values[row * count:(row + 1) * count] for row in range(len(texts)))
+    return [[_library.VALUES[number] for number in row] for row in rows]

@@ -1,28 +1,23 @@
 """The command `cfgx-deps`."""
 import argparse
+import gc
 import os
 import shutil
 import sys
 from typing import Dict, Iterable, Iterator, List, NoReturn, Optional, Sequence, TextIO
 
 from . import __version__
+from ._arguments import parser_of
 from .manifest import ManifestError, Report, RequestError, Value, report
 from .manifest import _flags, _formats, _platforms, _table
 from .manifest._cargo import KINDS
 from .manifest._errors import shown
+from .manifest._once import Once
 
-DESCRIPTION = (
-    "Shows which dependencies of a Cargo.toml Cargo takes on the host and on each target, as far as"
-    " their conditions say. Runs cargo for the list of the dependencies, and no code of the"
-    " packages."
-)
-EPILOG = (
-    "The status is 0. It is 1 if the manifest cannot be read, something else fails, or --fail-on"
-    " finds something, and 2 if an argument is wrong."
-)
-FAILED, MISUSED, INTERRUPTED = 1, 2, 130
+FOUND, MISUSED, FAILED, INTERRUPTED = 1, 2, 3, 130
+# How many characters are printed at once.
+PIECE = 1 << 20
 UNKNOWN, NEVER = "unknown", "never"
-FORMATS = ("table", "json", "tsv")
 
 
 class Parser(argparse.ArgumentParser):
@@ -40,36 +35,7 @@ class OutputError(Exception):
 
 def parser() -> Parser:
     """Returns the parser of the arguments."""
-    made = Parser("cfgx-deps", description=DESCRIPTION, epilog=EPILOG, allow_abbrev=False,
-                  add_help=False)
-    add = made.add_argument
-    add("manifest", metavar="MANIFEST", nargs="?",
-        help="a Cargo.toml or its folder; without one, the first in this folder or above it")
-    add("--target", metavar="TRIPLE", action="append", default=[],
-        help="a target, host-tuple, or all; without one, everything is built for the host")
-    add("--host", metavar="TRIPLE",
-        help="the host, if it is not the machine that runs cargo or, with --rustc, rustc")
-    add("--facts", metavar="FILE", action="append", default=[],
-        help="a target by the lines that rustc prints; its triple is the name of the file")
-    add("--rustc", action="store_true",
-        help="ask $RUSTC, or the rustc on the path, in place of the built-in table")
-    add("--workspace", action="store_true", help="all packages of the workspace")
-    add("-p", "--package", metavar="NAME", action="append", default=[],
-        help="a package of the workspace")
-    add("--kind", metavar="KIND,..", action="append", help="normal, dev or build")
-    add("--cfg", metavar="FLAG", action="append", default=[],
-        help="a flag that is set: NAME or KEY=\"VALUE\"")
-    add("--no-other-cfg", action="store_true", help="no other flag is set")
-    add("--rustflags", action="store_true", help="read RUSTFLAGS as Cargo does")
-    add("--format", choices=FORMATS, default=FORMATS[0], help="what is printed")
-    add("--summary", action="store_true", help="count the platforms with each value")
-    add("--fail-on", metavar="WHAT,..", action="append", default=[],
-        help="status 1 for a value that is unknown, or a condition that is never true; the rows"
-             " are named on stderr")
-    add("--wide", action="store_true", help="cut nothing to the width of the terminal")
-    add("--version", action="store_true", help="print the version of the package")
-    add("-h", "--help", action="store_true", help="print this")
-    return made
+    return parser_of(Parser)
 
 
 def divided(lists: Iterable[str]) -> List[str]:
@@ -96,7 +62,7 @@ def report_of(words: argparse.Namespace) -> Report:
         words.manifest, words.target, packages=words.package, is_workspace=words.workspace,
         kinds=kinds, facts=facts_of(words.facts), flags=words.cfg,
         has_other_flags=not words.no_other_cfg, rustflags=rustflags, asks_rustc=words.rustc,
-        host=words.host,
+        host=words.host, cargo_timeout=words.cargo_timeout,
     )
 
 
@@ -112,18 +78,34 @@ def lines_of(found: Report, words: argparse.Namespace) -> Iterator[str]:
     return table(found, width)
 
 
-def write(text: str) -> None:
-    """Prints a text. A character that the output does not have is escaped. Raises `OutputError`."""
+def write(lines: Iterable[str]) -> None:
+    """Prints lines. A character that the output does not have is escaped. Raises `OutputError`."""
     if sys.stdout is None:
         raise OutputError("the output is closed")
     encoding = sys.stdout.encoding or "utf-8"
     try:
-        print(text.encode(encoding, "backslashreplace").decode(encoding), flush=True)
+        for text in pieces_of(lines):
+            print(text.encode(encoding, "backslashreplace").decode(encoding), flush=True)
     except OSError as error:
         abandon(sys.stdout)
         # If the pipe is broken, whoever reads has enough.
         if not isinstance(error, BrokenPipeError):
             raise OutputError(f"the output could not be written: {error.strerror}") from error
+
+
+def pieces_of(lines: Iterable[str]) -> Iterator[str]:
+    """Yields lines in texts of some size. A table of a hundred thousand rows does not fit into
+    memory at once."""
+    piece: List[str] = []
+    size = 0
+    for line in lines:
+        piece.append(line)
+        size += len(line) + 1
+        if size > PIECE:
+            yield "\n".join(piece)
+            piece, size = [], 0
+    if piece:
+        yield "\n".join(piece)
 
 
 def abandon(stream: TextIO) -> None:
@@ -142,11 +124,19 @@ def complain(message: str, above: str = "") -> None:
         abandon(sys.stderr)
 
 
+def has_unknown(values: Sequence[Value]) -> bool:
+    """Whether a value is unknown."""
+    return Value.UNKNOWN in values
+
+
 def reasons_to_fail(found: Report, wanted: Sequence[str]) -> Iterator[str]:
     """Yields a line for each row of a report for which the command is to fail."""
+    if not wanted:
+        return
+    is_unknown = Once(has_unknown)
     for row in found.rows:
         what = f"{_table.full_name_of(row)} {row.dependency.condition}"
-        if UNKNOWN in wanted and Value.UNKNOWN in row.values:
+        if UNKNOWN in wanted and is_unknown(row.values):
             yield shown(f"unknown: {what}")
         if NEVER in wanted and row.is_never:
             yield shown(f"never true: {what}")
@@ -155,7 +145,7 @@ def reasons_to_fail(found: Report, wanted: Sequence[str]) -> Iterator[str]:
 def run(words: argparse.Namespace) -> int:
     """Prints what the arguments ask for, and returns the status."""
     if words.help or words.version:
-        write(parser().format_help().rstrip() if words.help else f"cfgx-deps {__version__}")
+        write([parser().format_help().rstrip() if words.help else f"cfgx-deps {__version__}"])
         return 0
     wanted = divided(words.fail_on)
     wrong = [one for one in wanted if one not in (UNKNOWN, NEVER)]
@@ -164,16 +154,20 @@ def run(words: argparse.Namespace) -> int:
     found = report_of(words)
     for note in found.notes:
         complain(f"note: {shown(note)}")
-    write("\n".join(lines_of(found, words)))
+    write(lines_of(found, words))
     reasons = list(reasons_to_fail(found, wanted))
     for reason in reasons:
         complain(reason)
-    return FAILED if reasons else 0
+    if not found.is_tried:
+        complain("not all answers to flags were tried out: the budget of a report is spent")
+    return FOUND if reasons else 0 if found.is_tried else FAILED
 
 
 def main(arguments: Optional[Sequence[str]] = None) -> int:
     """Runs the command with the arguments of the process, and returns its status."""
     words = parser().parse_intermixed_args(arguments)
+    # A report of a large manifest has a million objects and no cycles.
+    gc.disable()
     try:
         return run(words)
     except RequestError as error:

@@ -1,8 +1,7 @@
 """The facts of targets."""
-import subprocess
 from typing import Iterable, List, Optional, Union
 
-from . import _library
+from . import _library, _process
 from ._error import RustcError
 
 Facts = Union[str, Iterable[str]]
@@ -29,20 +28,22 @@ def number_of(otherwise: Optional[bool]) -> int:
 
 def rustc_facts(triple: str) -> List[str]:
     """Returns the facts of a target, for `audit` and `Expression.answers`: the lines that
-    `rustc --print cfg` prints for it. The `rustc` is that on the path. Raises `RustcError` if there
-    is none, or if it does not know the target."""
+    `rustc --print cfg` prints for it. The `rustc` is that on the path, and starts in the folder
+    `/`: so nothing of the current folder runs, and no `rust-toolchain.toml` there says which
+    `rustc` it is. Raises `RustcError` if there is none, or if it does not know the target."""
     return rustc_lines("--print", "cfg", "--target", triple)
 
 
 def rustc_lines(*words: str) -> List[str]:
     """Returns the lines that the `rustc` on the path prints with these words. Raises `RustcError`
     if there is none, or if it fails."""
-    pipe = subprocess.PIPE
+    if any("\0" in word for word in words):
+        raise RustcError(f"rustc takes no word with a zero byte: {words[-1]!r}")
     try:
-        run = subprocess.run(["rustc", *words], stdout=pipe, stderr=pipe, check=False)
+        run = _process.run(["rustc", *words])
     except OSError as error:
         raise RustcError(f"rustc could not be run: {error}") from error
-    if run.returncode != 0:
+    if run.status != 0:
         message = run.stderr.decode(errors="replace").rstrip()
         raise RustcError(f"rustc refused {' '.join(words)}: {message}")
     try:

@@ -10,9 +10,13 @@ from bisect import bisect_left
 from ctypes import POINTER, c_char_p, c_size_t, c_uint8, c_uint32
 from typing import Any, Callable, List, Optional, Sequence, Tuple, Union
 
-NAME = "libcfgx.so.2.2"
+from . import __version__
+
+# The package calls a library whose first two numbers are its own, and which has the calls below.
+LANGUAGE, MAJOR = map(int, __version__.split(".")[:2])
+MINOR = 0
+NAME = f"libcfgx.so.{LANGUAGE}.{MAJOR}"
 FOLDER = os.path.dirname(os.path.abspath(__file__))
-LANGUAGE, MAJOR, MINOR = 2, 2, 0
 
 # The statuses that calls return.
 DONE, FAULTY, OUT_OF_MEMORY, MISCOUNTED, TOO_LARGE, FAULTY_FACT = 0, 1, 3, 5, 8, 9
@@ -47,7 +51,7 @@ class Described(ctypes.Structure):
 
 class Step(ctypes.Structure):
     """The struct cfgx_step."""
-    _fields_ = [("kind", c_uint32), ("count", c_size_t)]
+    _fields_ = [("kind", c_uint32), ("number", c_size_t)]
 
 
 # The steps and the predicates for which the first call has room. Most conditions have fewer.
@@ -61,6 +65,7 @@ TEXT = (c_char_p, c_size_t)
 LIST = (c_char_p, c_size_t, SIZES, c_size_t)
 ARGUMENTS = {
     "cfgx_version": (),
+    "cfgx_check": (*TEXT, FAULT),
     "cfgx_explain": (*TEXT, BYTES, c_size_t, SIZES, FAULT),
     "cfgx_decide": (*TEXT, c_char_p, c_size_t, BYTES, c_size_t, SIZES, BYTES, FAULT),
     "cfgx_answers": (*TEXT, *LIST, c_uint8, BYTES, c_size_t, SIZES, FAULT),
@@ -164,8 +169,25 @@ def explain(text: bytes) -> bytes:
     return bytes(message[:needed.value])
 
 
+def fault_of(text: bytes) -> Optional[Fault]:
+    """Returns the fault of a text, or `None` if it is a condition."""
+    fault = Fault()
+    status = LIBRARY.cfgx_check(text, len(text), fault)
+    if status == FAULTY:
+        return fault
+    expect_done(status)
+    return None
+
+
 def compiled(text: bytes) -> Union[Fault, Tuple[Any, List[Described]]]:
     """Returns the steps and the predicates of a condition, or the fault of a faulty text."""
+    found = described(text)
+    return found if isinstance(found, Fault) else (found[0], list(found[1]))
+
+
+def described(text: bytes) -> Union[Fault, Tuple[Any, Any]]:
+    """Returns arrays of the steps and of the predicates of a condition, or the fault of a faulty
+    text."""
     steps, predicates = (Step * ROOM)(), (Described * ROOM)()
     step_count, count, fault = c_size_t(), c_size_t(), Fault()
 
@@ -183,27 +205,51 @@ def compiled(text: bytes) -> Union[Fault, Tuple[Any, List[Described]]]:
     if status == FAULTY:
         return fault
     expect_done(status)
-    return (Step * step_count.value).from_buffer_copy(steps), predicates[:count.value]
+    return (
+        (Step * step_count.value).from_buffer_copy(steps),
+        (Described * count.value).from_buffer_copy(predicates),
+    )
+
+
+def values_of(predicates: Any) -> Tuple[Sequence[int], Sequence[int]]:
+    """Returns where the values of an array of predicates start, and where they end."""
+    size = ctypes.sizeof(c_size_t)
+    each, sizes = ctypes.sizeof(Described) // size, memoryview(bytes(predicates)).cast("N")
+    return sizes[Described.value_start.offset // size::each], (
+        sizes[Described.value_end.offset // size::each]
+    )
+
+
+def value_number(steps: Any, answers: bytes) -> int:
+    """Returns the number of the value of the steps of a condition over the numbers of as many
+    answers as it has predicates."""
+    found = c_uint8()
+    expect_done(LIBRARY.cfgx_apply(steps, len(steps), answers, len(answers), found))
+    return found.value
 
 
 def value(steps: Any, answers: bytes) -> Optional[bool]:
-    """Returns the value of the steps of a condition over the numbers of as many answers as it has
-    predicates."""
-    found = c_uint8()
-    expect_done(LIBRARY.cfgx_apply(steps, len(steps), answers, len(answers), found))
-    return VALUES[found.value]
+    """Returns the value that `value_number` numbers."""
+    return VALUES[value_number(steps, answers)]
 
 
-def fillings(text: bytes, answers: bytes) -> Tuple[List[bool], List[bool]]:
+def filling_numbers(text: bytes, answers: bytes) -> Tuple[bytes, bytes]:
     """Returns the fillings of a condition that is unknown over the numbers of as many answers as it
-    has predicates: answers with which it is true, and answers with which it is false."""
+    has predicates: the numbers of answers with which it is true, and of answers with which it is
+    false."""
     count = len(answers)
     both = (c_uint8 * (2 * count))()
     expect_done(LIBRARY.cfgx_decide(
         text, len(text), answers, count, both, len(both), c_size_t(), c_uint8(), Fault()
     ))
-    found = list(map(bool, both))
+    found = bytes(both)
     return found[:count], found[count:]
+
+
+def fillings(text: bytes, answers: bytes) -> Tuple[List[bool], List[bool]]:
+    """Returns the answers that `filling_numbers` numbers."""
+    if_true, if_false = filling_numbers(text, answers)
+    return list(map(bool, if_true)), list(map(bool, if_false))
 
 
 def list_of(texts: Sequence[bytes]) -> Tuple[bytes, int, Any, int]:
@@ -230,9 +276,9 @@ def answers(
 
 def audit(
     texts: Sequence[bytes], facts: Sequence[bytes], target_ends: Sequence[int], otherwise: int
-) -> Tuple[int, Fault, List[Optional[bool]]]:
-    """Returns the status, the fault, and the values of the texts on the targets. The status is that
-    of done, or that of a faulty text or fact, for which the values say nothing."""
+) -> Tuple[int, Fault, bytes]:
+    """Returns the status, the fault, and the numbers of the values of the texts on the targets. The
+    status is that of done, or that of a faulty text or fact, for which the values say nothing."""
     fault, count = Fault(), len(target_ends)
     ends, values = (c_size_t * count)(*target_ends), (c_uint8 * (len(texts) * count))()
     status = LIBRARY.cfgx_audit(
@@ -241,4 +287,4 @@ def audit(
     )
     if status not in (FAULTY, FAULTY_FACT):
         expect_done(status)
-    return status, fault, [VALUES[number] for number in values]
+    return status, fault, bytes(values)

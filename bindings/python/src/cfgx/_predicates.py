@@ -1,9 +1,17 @@
 """Functions that make predicates: one for each kind, with the name of its key if it has one."""
-from typing import Callable, TypeVar
+from typing import Callable, Protocol, TypeVar
 
 from ._expression import KEYS, Kind, Predicate
 
 Make = TypeVar("Make", bound=Callable[..., Predicate])
+
+
+class Valued(Protocol):
+    """A function that makes a predicate of a value."""
+
+    def __call__(self, value: str) -> Predicate:
+        """Returns the predicate with a value, as the text has it between its quotes."""
+        ...
 
 
 def flag(key: str) -> Predicate:
@@ -35,7 +43,7 @@ def alone(kind: Kind) -> Callable[[], Predicate]:
     return named(make, kind, f"Returns the predicate `{KEYS[kind]}`.")
 
 
-def valued(kind: Kind) -> Callable[[str], Predicate]:
+def valued(kind: Kind) -> Valued:
     """Returns the function that makes a predicate of a kind with values."""
     def make(value: str) -> Predicate:
         return Predicate(kind, KEYS[kind], value)

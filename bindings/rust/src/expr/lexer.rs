@@ -1,7 +1,7 @@
 //! The tokens of a text.
 
 use crate::error::ParseError;
-use crate::ffi::{self, numbers};
+use crate::{ffi, numbers};
 use std::fmt;
 use std::iter::FusedIterator;
 use std::ops::Range;

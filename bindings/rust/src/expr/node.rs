@@ -1,12 +1,13 @@
-//! The nodes of a condition: the steps of an evaluation, each with what it asks.
+//! The nodes of a condition: what it asks, and the steps that combine the answers.
 
-use super::{Predicate, TargetPredicate};
-use crate::ffi::{self, numbers};
+use super::{Func, Predicate, TargetPredicate};
 use crate::targets::{Abi, Arch, Endian, Env, Family, HasAtomic, Os, Panic, Vendor};
+use crate::{ffi, numbers};
+use std::iter::repeat_n;
+use std::slice;
 
-/// The number of nodes that take no memory. Most conditions have no more, and `cfg-expr` keeps as
-/// many so.
-const FEW: usize = 5;
+/// The number of steps that take no memory. Most conditions have no more.
+pub(super) const FEW: usize = 6;
 
 static TEST: Predicate<'static> = Predicate::Test;
 static DEBUG_ASSERTIONS: Predicate<'static> = Predicate::DebugAssertions;
@@ -16,34 +17,54 @@ static LITTLE: Predicate<'static> = Predicate::Target(TargetPredicate::Endian(En
 static POINTER: Predicate<'static> =
     Predicate::Target(TargetPredicate::HasAtomic(HasAtomic::Pointer));
 
-/// The nodes of a condition in order.
+/// What a condition asks, in the order of asking, and the steps that combine the answers.
 #[derive(Clone)]
 pub(super) enum Nodes {
-    /// The first of these nodes, as many as the number says
-    Few([Node; FEW], usize),
-    /// All of these nodes
-    Many(Box<[Node]>),
+    /// A predicate alone, which is the most frequent condition
+    One(Asked),
+    /// Few steps, and fewer predicates
+    Few(FewNodes),
+    /// All items. The steps are packed
+    Many {
+        asked: Box<[Asked]>,
+        steps: Box<[usize]>,
+    },
 }
 
-/// A step of an evaluation with a stack. It takes 24 bytes, and owns no memory.
+/// The first items of each list, as many as the counts say. The steps are packed.
+#[derive(Clone)]
+pub(super) struct FewNodes {
+    asked: [Asked; FEW - 1],
+    steps: [u8; FEW],
+    asked_count: u8,
+    step_count: u8,
+}
+
+/// The steps of a condition, which are packed.
+pub(super) enum Steps<'a> {
+    Few(&'a [u8]),
+    Many(&'a [usize]),
+}
+
+/// A node of a condition as it stands in the text: a function stands in front of its members.
 #[derive(Clone, Copy)]
-pub(super) enum Node {
-    /// Pushes the answer to a predicate that has no text of the condition
+pub(super) enum Step {
+    /// The predicate that is asked as this one, counted from 0
+    Ask(usize),
+    /// `true` or `false`
+    Literal(bool),
+    Function(Func),
+}
+
+/// A predicate that is asked. It takes 24 bytes, and owns no memory.
+#[derive(Clone, Copy)]
+pub(super) enum Asked {
+    /// A predicate that has no text of the condition
     Known(&'static Predicate<'static>),
-    /// Pushes the answer to a predicate that borrows a text
+    /// A predicate that borrows a text
     Borrowed(Kind, Span),
-    /// Pushes the answer to a predicate on the target, with a value that has no name
+    /// A predicate on the target, with a value that has no name
     Unnamed(Field, Span),
-    /// Pushes true
-    True,
-    /// Pushes false
-    False,
-    /// Pops a value, and pushes its negation
-    Not,
-    /// Pops this number of values, and pushes their conjunction
-    All(usize),
-    /// Pops this number of values, and pushes their disjunction
-    Any(usize),
 }
 
 /// A kind of predicates that borrow a text.
@@ -76,98 +97,197 @@ pub(super) enum Field {
 pub(super) struct Span(usize, usize);
 
 impl Nodes {
-    /// Returns no nodes.
-    #[inline]
-    pub(super) fn new() -> Self {
-        Nodes::Few([Node::Not; FEW], 0)
-    }
-
-    /// Becomes the nodes of `text`, which has these steps and predicates.
-    #[inline]
-    pub(super) fn fill(&mut self, text: &str, steps: &[ffi::Step], predicates: &[ffi::Predicate]) {
-        if steps.len() > FEW {
-            *self = Nodes::Many(vec![Node::Not; steps.len()].into());
-        }
-        let nodes = match self {
-            Nodes::Few(nodes, count) => {
-                *count = steps.len();
-                &mut nodes[..]
-            }
-            Nodes::Many(nodes) => nodes,
-        };
-        let mut predicates = predicates.iter();
-        for (node, step) in nodes.iter_mut().zip(steps) {
-            *node = match step.kind {
-                numbers::STEP_FALSE => Node::False,
-                numbers::STEP_TRUE => Node::True,
-                numbers::STEP_ASK => {
-                    let found = predicates.next().expect("each step has its predicate");
-                    Node::asking(text, found)
-                }
-                numbers::STEP_NOT => Node::Not,
-                numbers::STEP_ALL => Node::All(step.count),
-                numbers::STEP_ANY => Node::Any(step.count),
-                kind => unreachable!("step {kind}"),
-            };
+    /// Returns all nodes of `text`, which has these steps and predicates.
+    pub(super) fn many(text: &str, steps: &[ffi::Step], predicates: &[ffi::Predicate]) -> Self {
+        Nodes::Many {
+            asked: predicates
+                .iter()
+                .map(|found| Asked::new(text, found))
+                .collect(),
+            steps: steps.iter().map(packed).collect(),
         }
     }
 
-    /// Returns the nodes.
+    /// Returns what is asked, in the order of asking.
     #[inline]
-    pub(super) fn as_slice(&self) -> &[Node] {
+    pub(super) fn asked(&self) -> &[Asked] {
         match self {
-            Nodes::Few(nodes, count) => &nodes[..*count],
-            Nodes::Many(nodes) => nodes,
+            Nodes::One(asked) => slice::from_ref(asked),
+            Nodes::Few(nodes) => nodes.asked(),
+            Nodes::Many { asked, .. } => asked,
+        }
+    }
+
+    /// Returns the steps.
+    #[inline]
+    pub(super) fn steps(&self) -> Steps<'_> {
+        match self {
+            Nodes::One(_) => Steps::Few(&[numbers::STEP_ASK as u8]),
+            Nodes::Few(nodes) => Steps::Few(nodes.steps()),
+            Nodes::Many { steps, .. } => Steps::Many(steps),
+        }
+    }
+
+    /// Returns for each predicate, in the order of asking, whether it stands below an even number
+    /// of `not`.
+    pub(super) fn signs(&self) -> Vec<bool> {
+        let signs = vec![true; self.asked().len()];
+        match self.steps() {
+            Steps::Few(steps) => with_signs(signs, steps),
+            Steps::Many(steps) => with_signs(signs, steps),
         }
     }
 }
 
-impl Node {
-    /// Returns the node that asks a predicate of `text`. One match finds it, which takes less time
-    /// than one for each sort of predicates.
+/// Returns the signs, each of which becomes that of its predicate.
+fn with_signs(mut signs: Vec<bool>, steps: &[impl Packed]) -> Vec<bool> {
+    let mut waiting = vec![true];
+    for step in steps {
+        let sign = waiting.pop().expect("a step is a member, or the first one");
+        match step.unpack() {
+            Step::Ask(number) => signs[number] = sign,
+            Step::Literal(_) => {}
+            Step::Function(Func::Not) => waiting.push(!sign),
+            Step::Function(Func::All(count) | Func::Any(count)) => {
+                waiting.extend(repeat_n(sign, count));
+            }
+        }
+    }
+    signs
+}
+
+impl FewNodes {
+    /// Returns the nodes of `text`, which has these steps and predicates.
     #[inline]
-    fn asking(text: &str, found: &ffi::Predicate) -> Self {
+    pub(super) fn new(
+        text: &str,
+        found_steps: &[ffi::Step],
+        predicates: &[ffi::Predicate],
+    ) -> Self {
+        let mut nodes = FewNodes {
+            asked: [Asked::Known(&TEST); FEW - 1],
+            steps: [0; FEW],
+            asked_count: predicates.len() as u8,
+            step_count: found_steps.len() as u8,
+        };
+        for (place, found) in nodes.asked.iter_mut().zip(predicates) {
+            *place = Asked::new(text, found);
+        }
+        for (place, found) in nodes.steps.iter_mut().zip(found_steps) {
+            *place = packed(found) as u8;
+        }
+        nodes
+    }
+
+    /// Returns what is asked, in the order of asking.
+    #[inline]
+    pub(super) fn asked(&self) -> &[Asked] {
+        &self.asked[..usize::from(self.asked_count)]
+    }
+
+    /// Returns the steps.
+    #[inline]
+    pub(super) fn steps(&self) -> &[u8] {
+        &self.steps[..usize::from(self.step_count)]
+    }
+}
+
+/// Returns whether there is room for these steps and predicates in `FewNodes`.
+#[inline]
+pub(super) fn are_few(steps: &[ffi::Step], predicates: &[ffi::Predicate]) -> bool {
+    steps.len() <= FEW && predicates.len() < FEW
+}
+
+/// Returns a step of the engine as one number: its kind, which is less than 8, and 8 times its
+/// number. If there are few steps, it fits in a byte.
+#[inline]
+fn packed(found: &ffi::Step) -> usize {
+    found.kind as usize + 8 * found.number
+}
+
+/// A step that is packed into a number.
+pub(super) trait Packed: Copy + Into<usize> {
+    /// Returns the step.
+    #[inline]
+    fn unpack(self) -> Step {
+        let packed: usize = self.into();
+        let number = packed / 8;
+        match (packed % 8) as u32 {
+            numbers::STEP_FALSE => Step::Literal(false),
+            numbers::STEP_TRUE => Step::Literal(true),
+            numbers::STEP_ASK => Step::Ask(number),
+            numbers::STEP_NOT => Step::Function(Func::Not),
+            numbers::STEP_ALL => Step::Function(Func::All(number)),
+            // The engine writes no other kind.
+            _ => Step::Function(Func::Any(number)),
+        }
+    }
+}
+
+impl Packed for u8 {}
+
+impl Packed for usize {}
+
+impl Asked {
+    /// Returns a predicate of `text` that the engine found. One match finds it, which takes less
+    /// time than one for each sort of predicates. It is made where it stays, and is not copied.
+    #[inline(always)]
+    pub(super) fn new(text: &str, found: &ffi::Predicate) -> Self {
         let span = Span(found.value_start, found.value_end);
         let value = || &text.as_bytes()[found.value_start..found.value_end];
-        let named = |known: Option<_>, field| known.map_or(Node::Unnamed(field, span), Node::Known);
+        let named =
+            |known: Option<_>, field| known.map_or(Asked::Unnamed(field, span), Asked::Known);
         let number = Span(found.number as usize, 0);
         match found.kind {
             numbers::PREDICATE_FLAG => {
-                Node::Borrowed(Kind::Flag, Span(found.key_start, found.key_end))
+                Asked::Borrowed(Kind::Flag, Span(found.key_start, found.key_end))
             }
             numbers::PREDICATE_KEY_VALUE => {
-                Node::Borrowed(Kind::KeyValue, Span(found.start, found.end))
+                Asked::Borrowed(Kind::KeyValue, Span(found.start, found.end))
             }
-            numbers::PREDICATE_TEST => Node::Known(&TEST),
-            numbers::PREDICATE_DEBUG_ASSERTIONS => Node::Known(&DEBUG_ASSERTIONS),
-            numbers::PREDICATE_PROC_MACRO => Node::Known(&PROC_MACRO),
-            numbers::PREDICATE_FEATURE => Node::Borrowed(Kind::Feature, span),
-            numbers::PREDICATE_TARGET_FEATURE => Node::Borrowed(Kind::TargetFeature, span),
+            numbers::PREDICATE_TEST => Asked::Known(&TEST),
+            numbers::PREDICATE_DEBUG_ASSERTIONS => Asked::Known(&DEBUG_ASSERTIONS),
+            numbers::PREDICATE_PROC_MACRO => Asked::Known(&PROC_MACRO),
+            numbers::PREDICATE_FEATURE => Asked::Borrowed(Kind::Feature, span),
+            numbers::PREDICATE_TARGET_FEATURE => Asked::Borrowed(Kind::TargetFeature, span),
             numbers::PREDICATE_ABI => named(Abi::predicate_of(value()), Field::Abi),
             numbers::PREDICATE_ARCH => named(Arch::predicate_of(value()), Field::Arch),
-            numbers::PREDICATE_ENDIAN => Node::Known(byte_order(found.number)),
+            numbers::PREDICATE_ENDIAN => Asked::Known(byte_order(found.number)),
             numbers::PREDICATE_ENV => named(Env::predicate_of(value()), Field::Env),
             numbers::PREDICATE_FAMILY => named(Family::predicate_of(value()), Field::Family),
             numbers::PREDICATE_HAS_ATOMIC => match found.number {
-                numbers::ATOMIC_POINTER => Node::Known(&POINTER),
-                _ => Node::Unnamed(Field::HasAtomic, number),
+                numbers::ATOMIC_POINTER => Asked::Known(&POINTER),
+                _ => Asked::Unnamed(Field::HasAtomic, number),
             },
             numbers::PREDICATE_OS => named(Os::predicate_of(value()), Field::Os),
             numbers::PREDICATE_PANIC => named(Panic::predicate_of(value()), Field::Panic),
-            numbers::PREDICATE_POINTER_WIDTH => Node::Unnamed(Field::PointerWidth, number),
+            numbers::PREDICATE_POINTER_WIDTH => Asked::Unnamed(Field::PointerWidth, number),
             numbers::PREDICATE_VENDOR => named(Vendor::predicate_of(value()), Field::Vendor),
             kind => unreachable!("predicate {kind}"),
         }
     }
 
-    /// Returns the predicate of `text` that the node asks, if it asks one.
+    /// Returns the predicate, whose texts are those of `text`.
     #[inline]
-    pub(super) fn asked(self, text: &str) -> Option<Predicate<'_>> {
+    pub(super) fn predicate(self, text: &str) -> Predicate<'_> {
         match self {
-            Node::Known(predicate) => Some(predicate.clone()),
-            Node::Borrowed(kind, span) => Some(kind.predicate(span, text)),
-            Node::Unnamed(field, span) => Some(field.predicate(span, text)),
-            _ => None,
+            Asked::Known(predicate) => predicate.clone(),
+            Asked::Borrowed(kind, span) => kind.predicate(span, text),
+            Asked::Unnamed(field, span) => field.predicate(span, text),
+        }
+    }
+
+    /// Returns what `eval_predicate` answers to the predicate, whose texts are those of `text`.
+    #[inline]
+    pub(super) fn answer<T>(
+        self,
+        text: &str,
+        eval_predicate: &mut impl FnMut(&Predicate<'_>) -> T,
+    ) -> T {
+        match self {
+            Asked::Known(predicate) => eval_predicate(predicate),
+            Asked::Borrowed(kind, span) => eval_predicate(&kind.predicate(span, text)),
+            Asked::Unnamed(field, span) => eval_predicate(&field.predicate(span, text)),
         }
     }
 }
@@ -225,11 +345,11 @@ fn key_value(spelled: &str) -> Predicate<'_> {
 
 #[cfg(test)]
 mod tests {
-    use super::{Node, Nodes};
+    use super::{Asked, Nodes};
 
     #[test]
-    fn a_node_takes_24_bytes() {
-        assert_eq!(size_of::<Node>(), 24);
+    fn what_is_asked_takes_24_bytes() {
+        assert_eq!(size_of::<Asked>(), 24);
         assert_eq!(size_of::<Nodes>(), 128);
     }
 }

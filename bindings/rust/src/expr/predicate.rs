@@ -134,3 +134,42 @@ pub enum Predicate<'a> {
         val: &'a str,
     },
 }
+
+impl TargetPredicate {
+    /// Returns the key, and the value without its quotes.
+    fn parts(&self) -> (&'static str, String) {
+        let text = |text: &str| text.to_string();
+        match self {
+            TargetPredicate::Abi(abi) => ("target_abi", text(abi.as_str())),
+            TargetPredicate::Arch(arch) => ("target_arch", text(arch.as_str())),
+            TargetPredicate::Endian(Endian::big) => ("target_endian", text("big")),
+            TargetPredicate::Endian(Endian::little) => ("target_endian", text("little")),
+            TargetPredicate::Env(env) => ("target_env", text(env.as_str())),
+            TargetPredicate::Family(family) => ("target_family", text(family.as_str())),
+            TargetPredicate::HasAtomic(width) => ("target_has_atomic", width.to_string()),
+            TargetPredicate::Os(os) => ("target_os", text(os.as_str())),
+            TargetPredicate::Panic(panic) => ("panic", text(panic.as_str())),
+            TargetPredicate::PointerWidth(bits) => ("target_pointer_width", bits.to_string()),
+            TargetPredicate::Vendor(vendor) => ("target_vendor", text(vendor.as_str())),
+        }
+    }
+}
+
+impl Predicate<'_> {
+    /// Returns a condition that asks this predicate alone. A value has no quotes inside.
+    pub(crate) fn spelled(&self) -> String {
+        match self {
+            Predicate::Target(target) => {
+                let (key, value) = target.parts();
+                format!("{key} = \"{value}\"")
+            }
+            Predicate::Test => String::from("test"),
+            Predicate::DebugAssertions => String::from("debug_assertions"),
+            Predicate::ProcMacro => String::from("proc_macro"),
+            Predicate::Feature(name) => format!("feature = \"{name}\""),
+            Predicate::TargetFeature(name) => format!("target_feature = \"{name}\""),
+            Predicate::Flag(key) => key.to_string(),
+            Predicate::KeyValue { key, val } => format!("{key} = \"{val}\""),
+        }
+    }
+}

@@ -176,7 +176,9 @@ impl TargetInfo {
         // A line before the first faulty fact is a condition, or one that no condition can ask,
         // unless it begins with `?`.
         let facts = Facts::new(lines().map(|(_, text)| text));
-        let faulty = audit(&[], &[facts]).err().map(|error| error.number);
+        let no_conditions: [Expression; 0] = [];
+        let faulty = audit(no_conditions, [facts]).err();
+        let faulty = faulty.map(|error| error.number);
         let mut values = Values::default();
         for (number, (line, text)) in lines().enumerate() {
             match Expression::parse(text) {

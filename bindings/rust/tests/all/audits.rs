@@ -69,6 +69,10 @@ const VALUES: &[(&str, &str, &str)] = &[
     ("all(a, b)", "not(any(a, b))", "11"),
     ("all()", "", "11"),
     ("any()", "a", "00"),
+    // White space within a value is part of it.
+    ("feature = \"a\nb\"", "feature = \"a\nb\"", "11"),
+    ("feature = \"a\nb\"", "feature = \"a b\"", "?0"),
+    ("feature = \"a\tb\"", "feature = \"a\tb\"", "11"),
 ];
 
 /// Returns the digit of a value.
@@ -96,6 +100,17 @@ fn values_over_facts() {
 #[test]
 fn other_predicates_are_unknown_by_default() {
     assert_eq!(Otherwise::default(), Otherwise::Unknown);
+}
+
+/// No conditions.
+const NONE: [Expression; 0] = [];
+
+/// No targets.
+const NO_TARGETS: [Facts; 0] = [];
+
+/// Returns the error of an audit of no conditions on these targets.
+fn error_of(targets: &[Facts]) -> FactError {
+    audit(NONE, targets).unwrap_err()
 }
 
 /// The number of facts of each target, one of which is faulty in turn.
@@ -138,10 +153,12 @@ fn each_faulty_fact_is_named() {
     let texts = NO_FACTS.iter().cycle();
     let mut seen = 0;
     for ((target, number), text) in places.cycle().zip(texts).take(11 * NO_FACTS.len()) {
-        let error = audit(&[], &targets_with(text, target, number)).unwrap_err();
-        assert_eq!(
-            error.to_string(),
-            format!("fact {number} of target {target} is faulty: {text}")
+        let error = error_of(&targets_with(text, target, number));
+        let (printed, end) = (error.to_string(), format!(": {}: {text}", error.reason));
+        let start = format!("fact {number} of target {target} is faulty in bytes ");
+        assert!(
+            printed.starts_with(&start) && printed.ends_with(&end),
+            "{printed}"
         );
         let found = (error.target, error.number, error.fact.as_str());
         assert_eq!(found, (target, number, *text));
@@ -174,14 +191,12 @@ const FACT_FAULTS: [(&str, Reason, Range<usize>); 11] = [
 fn a_faulty_fact_has_its_reason_and_the_bytes_at_fault() {
     for (fact, reason, span) in FACT_FAULTS {
         let targets = [Facts::new(["unix"]), Facts::new(["test", fact])];
-        let expected = FactError {
-            target: 1,
-            number: 1,
-            fact: fact.to_string(),
-            reason,
-            span,
-        };
-        assert_eq!(audit(&[], &targets), Err(expected));
+        let error = error_of(&targets);
+        assert_eq!((error.target, error.number), (1, 1));
+        assert_eq!((error.reason, error.span.clone()), (reason, span.clone()));
+        assert_eq!(error.fact, fact);
+        let printed = format!("fact 1 of target 1 is faulty in bytes {span:?}: {reason}: {fact}");
+        assert_eq!(error.to_string(), printed);
     }
 }
 
@@ -193,32 +208,39 @@ fn the_first_faulty_fact_is_named() {
         Facts::default(),
         Facts::new(["unix", "key)", "all("]),
     ];
-    let error = audit(&[], &targets).unwrap_err();
+    let error = error_of(&targets);
     assert_eq!(
         (error.target, error.number, error.fact.as_str()),
         (3, 1, "key)")
     );
-    let error = audit(&[], &[Facts::new(["all("])]).unwrap_err();
+    let error = error_of(&[Facts::new(["all("])]);
     assert_eq!((error.target, error.number), (0, 0));
 }
 
 #[test]
 fn nothing_to_audit() {
     let condition = Expression::parse("unix").unwrap();
-    let values = audit(&[condition], &[]).unwrap();
+    let values = audit(&[condition], NO_TARGETS).unwrap();
     assert_eq!((values.condition_count(), values.target_count()), (1, 0));
     assert_eq!(values.row(0), []);
     for number in [1, usize::MAX] {
         let said = panic_of(&values, |values| values.row(number).len());
         assert_eq!(said, format!("no condition has the number {number}"));
     }
-    let values = audit(&[], &[Facts::new(["unix"])]).unwrap();
+    let values = audit(NONE, &[Facts::new(["unix"])]).unwrap();
     assert_eq!((values.condition_count(), values.target_count()), (0, 1));
-    assert_ne!(Ok(values), audit(&[], &[]));
+    assert_ne!(Ok(values), audit(NONE, NO_TARGETS));
 }
 
-/// Lists of facts. The last one has the texts of the one before it in one fact.
-const LISTS: [&[&str]; 5] = [&[], &[""], &["", "", "a"], &["a", "", "é "], &["aé "]];
+/// Lists of facts. The fifth one has the texts of the one before it in one fact.
+const LISTS: [&[&str]; 6] = [
+    &[],
+    &[""],
+    &["", "", "a"],
+    &["a", "", "é "],
+    &["aé "],
+    &["a", "b", "c", "d", "e", "f", "g", "h", "i", "j", "k", "l"],
+];
 
 #[test]
 fn facts_are_the_texts_in_order() {
@@ -286,6 +308,83 @@ fn targets_that_are_not_there_panic() {
         for condition in [0, 1] {
             let said = panic_of(&values, |values| values.value(condition, target));
             assert_eq!(said, expected);
+        }
+    }
+}
+
+#[test]
+fn values_that_are_not_there_are_none() {
+    let values = two_by_two();
+    for (condition, target) in [(0, 0), (0, 1), (1, 0), (1, 1)] {
+        let value = values.value(condition, target);
+        assert_eq!(values.get(condition, target), Some(value));
+    }
+    for (condition, target) in [(2, 0), (0, 2), (HALF, 0), (0, HALF), (usize::MAX, 1)] {
+        assert_eq!(values.get(condition, target), None);
+    }
+}
+
+#[test]
+fn facts_are_iterated_from_both_ends() {
+    let facts = Facts::new(["a", "b", "c"]);
+    let mut left = (&facts).into_iter();
+    assert_eq!((left.next(), left.next_back()), (Some("a"), Some("c")));
+    assert_eq!((left.len(), left.size_hint()), (1, (1, Some(1))));
+    assert_eq!((left.next_back(), left.next_back()), (Some("b"), None));
+    assert_eq!((left.next(), left.len()), (None, 0));
+    let mut count = 0;
+    for fact in &facts {
+        assert_eq!(facts.get(count), Some(fact));
+        count += 1;
+    }
+    assert_eq!(count, 3);
+}
+
+#[test]
+fn conditions_and_facts_come_from_iterators() {
+    let texts = ["unix", "not(unix)"];
+    let owned = texts.map(|text| Expression::parse(text).unwrap());
+    let targets = ["unix", "windows"].map(|fact| Facts::new([fact]));
+    let expected = audit(&owned, &targets);
+    assert_eq!(audit(owned.iter(), targets.iter()), expected);
+    let parsed = texts.iter().map(|text| Expression::parse(text).unwrap());
+    let made = ["unix", "windows"].iter().map(|fact| Facts::new([fact]));
+    assert_eq!(audit(parsed, made), expected);
+    let boxed = owned.clone().map(Box::new);
+    assert_eq!(audit(boxed, targets), expected);
+}
+
+/// The number of targets, around those whose values are found at once.
+const TARGET_COUNTS: [usize; 8] = [1, 2, 63, 64, 65, 127, 128, 321];
+
+#[test]
+fn values_on_many_targets() {
+    let texts = [
+        "a",
+        "not(a)",
+        "any(a, b)",
+        "all(a, not(b))",
+        "any()",
+        "all(b, c)",
+    ];
+    let conditions = texts.map(|text| Expression::parse(text).unwrap());
+    // Each target is one of five.
+    let lists: [&[&str]; 5] = [&["a"], &["?a"], &["b", "c"], &["?b", "c"], &[]];
+    for count in TARGET_COUNTS {
+        let facts = (0..count).map(|number| Facts::new(lists[number * 7 % 5]));
+        let values = audit_with(&conditions, facts, Otherwise::False).unwrap();
+        assert_eq!(
+            (values.condition_count(), values.target_count()),
+            (6, count)
+        );
+        for (row, text) in texts.iter().enumerate() {
+            let expected = |number: usize| {
+                let facts = lists[number * 7 % 5];
+                let single = audit_with([&conditions[row]], [Facts::new(facts)], Otherwise::False);
+                single.unwrap().value(0, 0)
+            };
+            let expected: Vec<_> = (0..count).map(expected).collect();
+            assert_eq!(values.row(row), expected, "{text} on {count}");
         }
     }
 }

@@ -28,7 +28,7 @@ fn pass_with_path(folder: &str, test: &str) {
 fn lines_of(name: &str) -> Vec<String> {
     let lines = "debug_assertions panic=\"unwind\" target_arch=\"NAME\" target_endian=\"little\" \
         target_feature=\"fxsr\" target_feature=\"sse\" target_os=\"linux\" \
-        target_pointer_width=\"64\" target_thread_local unix";
+        target_pointer_width=\"64\" target_thread_local proc_macro unix";
     lines
         .replace("NAME", name)
         .split(' ')
@@ -98,8 +98,8 @@ const UNREAD: [(&str, &str); 5] = [
     ("nothing", "no line has a target_arch"),
     ("on-stderr", "no line has a target_arch"),
     ("less", "no line has a target_pointer_width"),
-    ("faulty", "line 11:\nall(\n   - unclosed parens"),
-    ("twice", "line 11: another target_os"),
+    ("faulty", "line 12:\nall(\n   - unclosed parens"),
+    ("twice", "line 12: another target_os"),
 ];
 
 #[test]

@@ -22,6 +22,18 @@ unsafe extern "C" {
         fault: *mut Fault,
     ) -> u32;
 
+    fn cfgx_decide(
+        text: *const u8,
+        text_length: usize,
+        answers: *const u8,
+        answer_count: usize,
+        fillings: *mut u8,
+        room: usize,
+        needed: *mut usize,
+        value: *mut u8,
+        fault: *mut Fault,
+    ) -> u32;
+
     fn cfgx_explain(
         text: *const u8,
         text_length: usize,
@@ -113,6 +125,30 @@ pub fn value(text: &str, answers: &[Option<bool>]) -> Option<bool> {
     };
     assert_eq!(status, 0, "{text}");
     answer_of(value)
+}
+
+/// Returns the two fillings of answers over which the value of a condition is unknown.
+pub fn fillings(text: &str, answers: &[Option<bool>]) -> [Vec<bool>; 2] {
+    let answers: Vec<u8> = answers.iter().copied().map(number_of).collect();
+    let (mut fillings, mut needed, mut value) = (vec![0; 2 * answers.len()], 0, 3);
+    // SAFETY: as the head of this module says.
+    let status = unsafe {
+        cfgx_decide(
+            text.as_ptr(),
+            text.len(),
+            answers.as_ptr(),
+            answers.len(),
+            fillings.as_mut_ptr(),
+            fillings.len(),
+            &mut needed,
+            &mut value,
+            &mut Fault::default(),
+        )
+    };
+    assert_eq!((status, needed, value), (0, fillings.len(), 2), "{text}");
+    let fillings: Vec<bool> = fillings.into_iter().map(|one| one == 1).collect();
+    let (if_true, if_false) = fillings.split_at(answers.len());
+    [if_true.to_vec(), if_false.to_vec()]
 }
 
 /// Returns what the engine prints of the fault of a text, or `None` if it is a condition.

@@ -4,7 +4,7 @@ use super::engine;
 use super::logics::Term;
 use super::spelling::spelled;
 use super::trees::{Numbers, Tree};
-use cfgx::{Decision, Expression};
+use cfgx::{Decision, Expression, Facts, audit};
 use std::cell::Cell;
 
 /// Calls `check` with 10,000 conditions, which are the same each time.
@@ -82,9 +82,16 @@ fn fillings_show_what_depends_on_unknown_answers() {
         let decision = expression.decide(|_| *left.next().unwrap());
         match (decision, engine::value(expression.original(), &answers)) {
             (Decision::Known(value), Some(expected)) => assert_eq!(value, expected),
-            (Decision::Unknown { if_true, if_false }, None) => {
+            (
+                Decision::Unknown {
+                    if_true, if_false, ..
+                },
+                None,
+            ) => {
                 check_filling(expression, &answers, &if_true, true);
                 check_filling(expression, &answers, &if_false, false);
+                let fillings = engine::fillings(expression.original(), &answers);
+                assert_eq!([if_true, if_false], fillings, "{expression}");
                 unknown.set(unknown.get() + 1);
             }
             (decision, value) => panic!("{expression}: {decision:?}, {value:?}"),
@@ -92,4 +99,26 @@ fn fillings_show_what_depends_on_unknown_answers() {
     });
     // Both kinds are common.
     assert!((1000..9000).contains(&unknown.get()), "{unknown:?}");
+}
+
+/// Facts of four targets, on which each generated predicate is true, false or unknown somewhere.
+const FACTS: [&[&str]; 4] = [
+    &["unix", "target_os = \"linux\"", "a", "feature = \"x\""],
+    &["windows", "?test", "?a", "target_pointer_width = \"64\""],
+    &["?unix", "?target_os = \"linux\"", "b", "?feature = \"x\""],
+    &[],
+];
+
+#[test]
+fn audits_are_those_of_the_engine() {
+    let targets = FACTS.map(Facts::new);
+    for_each(|_, expression, _| {
+        let values = audit([expression], &targets).unwrap();
+        let value_on = |facts: &&[&str]| {
+            let answers = engine::answers(expression.original(), facts);
+            engine::value(expression.original(), &answers)
+        };
+        let expected: Vec<Option<bool>> = FACTS.iter().map(value_on).collect();
+        assert_eq!(values.row(0), expected, "{expression}");
+    });
 }

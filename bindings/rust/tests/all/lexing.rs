@@ -4,6 +4,7 @@ use super::recorded;
 use cfgx::error::{ParseError, Reason};
 use cfgx::expr::Func;
 use cfgx::expr::lexer::{Lexer, LexerToken, Token};
+use std::iter::FusedIterator;
 
 /// Returns the bytes that spell a token.
 fn spelled(token: &Token<'_>) -> String {
@@ -159,4 +160,15 @@ fn functions_are_ordered_by_name_and_number() {
     let copy = ordered[3];
     assert_eq!(copy, ordered[3]);
     assert_eq!(format!("{copy:?}"), "All(300)");
+}
+
+/// Returns the number of items, and how many there are once it has ended.
+fn counts_of(mut items: impl FusedIterator) -> (usize, usize) {
+    (items.by_ref().count(), items.count())
+}
+
+#[test]
+fn a_lexer_stays_at_its_end() {
+    assert_eq!(counts_of(Lexer::new("any(a, b)")), (6, 0));
+    assert_eq!(counts_of(Lexer::new("a = 8")), (3, 0));
 }

@@ -2,6 +2,7 @@
 
 use cfgx::Expression;
 use cfgx::expr::{Logic, Predicate};
+use std::cell::Cell;
 
 /// A logic whose values are terms: `T`, `F`, `(x&y)`, `(x|y)`, `!x`, or what a caller answers.
 #[derive(Clone, Debug, PartialEq)]
@@ -57,6 +58,32 @@ fn terms_show_the_order_of_questions_and_of_joining() {
     assert_eq!(
         term("all(a, true, any(b), false)"),
         "((((T&F)&T)&a2)&(F|b1))"
+    );
+}
+
+#[test]
+fn terms_of_functions_among_predicates() {
+    assert_eq!(term("true"), "T");
+    assert_eq!(term("not(not(a))"), "!!a1");
+    assert_eq!(term("any(false)"), "(F|F)");
+    assert_eq!(term("cfg(all(a, any(b), c))"), "(((T&c3)&a2)&(F|b1))");
+    assert_eq!(
+        term("any(not(a), b, all(c, not(d), e), f)"),
+        "((((F|f6)|b5)|(((T&e4)&c3)&!d2))|!a1)"
+    );
+    assert_eq!(
+        term("not(all(any(a, true), b, any()))"),
+        "!(((T&b2)&F)&((F|T)|a1))"
+    );
+    assert_eq!(
+        term("all(not(a), not(b), any(c, d), e)"),
+        "((((T&e5)&((F|d4)|c3))&!b2)&!a1)"
+    );
+    // As many steps as take no memory, and one more
+    assert_eq!(term("all(a, b, c, d, e)"), "(((((T&e5)&d4)&c3)&b2)&a1)");
+    assert_eq!(
+        term("any(a, b, c, d, e, f)"),
+        "((((((F|f6)|e5)|d4)|c3)|b2)|a1)"
     );
 }
 
@@ -119,4 +146,59 @@ fn each_occurrence_is_asked_once() {
     let expression = Expression::parse("any(a, not(a), all(a, a), true)").unwrap();
     assert_eq!(expression.eval(|_| Asked(1)).0, 4);
     assert_eq!(expression.predicates().count(), 4);
+}
+
+thread_local! {
+    /// How often values were joined or negated.
+    static JOINED: Cell<u32> = const { Cell::new(0) };
+}
+
+/// A value whose operations are counted.
+struct Counted;
+
+impl Counted {
+    /// Counts an operation.
+    fn join(self) -> Self {
+        JOINED.set(JOINED.get() + 1);
+        self
+    }
+}
+
+impl Logic for Counted {
+    fn top() -> Self {
+        Counted
+    }
+
+    fn bottom() -> Self {
+        Counted
+    }
+
+    fn and(self, _: Self) -> Self {
+        self.join()
+    }
+
+    fn or(self, _: Self) -> Self {
+        self.join()
+    }
+
+    fn not(self) -> Self {
+        self.join()
+    }
+}
+
+#[test]
+fn all_is_asked_before_values_are_joined() {
+    for (text, count) in [
+        ("a", 0),
+        ("any(a, not(b), all(c, d), true)", 7),
+        ("all(a, any(b, c), not(d), any(e, f), g)", 10),
+    ] {
+        JOINED.set(0);
+        let expression = Expression::parse(text).unwrap();
+        let _ = expression.eval(|_| {
+            assert_eq!(JOINED.get(), 0, "{text}");
+            Counted
+        });
+        assert_eq!(JOINED.get(), count, "{text}");
+    }
 }

@@ -72,7 +72,10 @@ fn one_member_decides_a_wide_list() {
 fn long_decisions() {
     let text = format!("all({})", "a,".repeat(LENGTH / 2));
     let expression = Expression::parse(&text).unwrap();
-    let Decision::Unknown { if_true, if_false } = expression.decide(|_| None) else {
+    let Decision::Unknown {
+        if_true, if_false, ..
+    } = expression.decide(|_| None)
+    else {
         panic!("nothing is known")
     };
     assert_eq!((if_true.len(), if_false.len()), (LENGTH / 2, LENGTH / 2));

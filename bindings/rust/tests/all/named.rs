@@ -1,8 +1,13 @@
 //! The named values and lists, beside those that the documentation of cfg-expr 0.20.10 has.
 
+use cfgx::expr::TargetPredicate;
 use cfgx::targets::{
     Abi, Arch, Env, Families, Family, HasAtomic, HasAtomics, Os, Panic, Triple, Vendor,
 };
+use cfgx::{Expression, Predicate};
+use std::borrow::Cow;
+use std::fs;
+use std::path::Path;
 
 /// Makes a function that returns the name of each named value, what it prints, and its text by the
 /// rows.
@@ -87,5 +92,77 @@ macro_rules! check_fields {
 fn texts_of_fields() {
     for text in TEXTS {
         check_fields!(text: Triple, Abi, Arch, Vendor, Os, Family, Env, Panic);
+    }
+}
+
+/// Returns the text of a file of the repository.
+fn read(path: &str) -> String {
+    let root = Path::new(env!("CARGO_MANIFEST_DIR")).join("../..");
+    fs::read_to_string(root.join(path)).unwrap()
+}
+
+/// Returns the texts of the named values in a file of `crates/cfgx_fields`.
+fn values_of_the_engine(file: &str) -> Vec<String> {
+    let code = read(&format!("crates/cfgx_fields/src/builtins/{file}"));
+    let rests = code.split("Self::new_const(\"").skip(1);
+    rests
+        .map(|rest| rest.split('"').next().unwrap().to_string())
+        .collect()
+}
+
+/// Returns the values in the column of a key in the table of targets.
+fn values_of_the_table(key: &str) -> Vec<String> {
+    let table = read("bindings/targets/targets.tsv");
+    let mut rows = table.lines().skip(1).map(|line| line.split('\t'));
+    let column = rows.next().unwrap().position(|head| head == key).unwrap();
+    let cells = rows.flat_map(|mut cells| cells.nth(column).unwrap().split(' '));
+    let values = cells.filter(|cell| *cell != "-");
+    values.map(str::to_string).collect()
+}
+
+/// Returns the field of the one predicate of a condition, if it is of this type.
+macro_rules! asked_field {
+    ($field:ident, $condition:expr) => {{
+        let condition = Expression::parse($condition).unwrap();
+        let asked = condition.predicates().next();
+        match asked {
+            Some(Predicate::Target(TargetPredicate::$field(field))) => field,
+            other => panic!("{other:?} of {condition}"),
+        }
+    }};
+}
+
+/// Panics unless each value of a file of `crates/cfgx_fields`, and each one that a key has in the
+/// table of targets, is a named value. A condition that asks for it copies no text then.
+macro_rules! check_named {
+    ($field:ident, $file:literal, $key:literal) => {
+        for values in [values_of_the_engine($file), values_of_the_table($key)] {
+            assert!(values.len() > 1, "{} {}", $file, $key);
+            for text in values {
+                let field = asked_field!($field, &format!("{} = \"{text}\"", $key));
+                assert_eq!(field, $field::new(text));
+                assert!(matches!(field.0, Cow::Borrowed(_)), "{field}");
+            }
+        }
+    };
+}
+
+#[test]
+fn each_value_of_a_target_is_named() {
+    check_named!(Abi, "abis.rt", "target_abi");
+    check_named!(Arch, "architectures.rt", "target_arch");
+    check_named!(Env, "environments.rt", "target_env");
+    check_named!(Family, "families.rt", "target_family");
+    check_named!(Os, "systems.rt", "target_os");
+    check_named!(Panic, "panics.rt", "panic");
+    check_named!(Vendor, "vendors.rt", "target_vendor");
+}
+
+#[test]
+fn no_other_text_is_named() {
+    for text in ["", "x", "Linux", "linu", "linux "] {
+        let field = asked_field!(Os, &format!("target_os = \"{text}\""));
+        assert_eq!(field.as_str(), text);
+        assert!(matches!(field.0, Cow::Owned(_)), "{text}");
     }
 }

@@ -1,5 +1,6 @@
 //! The package `cfg-expr` of this repository in the place of that of a registry, for a program and
-//! for a dependency of it. The registry is a folder, whose `cfg-expr` is a stand-in.
+//! for a dependency of it. The registry is a folder, whose `cfg-expr` is a stand-in. Then the
+//! package under its own name.
 
 use super::{manifests, programs};
 use std::fs;
@@ -8,7 +9,7 @@ use std::process::Command;
 
 /// What the program depends on.
 const DEPENDENCIES: &str = "[dependencies]\nasking = \"1.0\"\n\
-    cfg-expr = { version = \"0.20.9\", features = [\"targets\"] }\n\n";
+    cfg-expr = { version = \"0.20.9\", features = [\"default\"] }\n\n";
 
 /// The program, which passes an expression to a function of its dependency.
 const PROGRAM: &str = r#"
@@ -67,7 +68,7 @@ pub fn folder_with(room: &Path, versions: &[&str]) -> PathBuf {
     let needs = "[dependencies]\ncfg-expr = \"0.20\"\n";
     publish(&registry, "asking", "1.0.0", needs, ASKING);
     for version in versions {
-        let features = "[features]\ntargets = []\n";
+        let features = "[features]\ndefault = []\ntargets = []\n";
         publish(&registry, "cfg-expr", version, features, STAND_IN);
     }
     let folder = programs::folder_in(room);
@@ -120,6 +121,9 @@ fn check_locked(room: &Path, patched: &str) {
     let update = ["update", "-p", "cfg-expr"];
     programs::succeed(&mut programs::cargo(&folder, &update));
     check_patched(&folder);
+    // Nothing more than without the optional dependency.
+    let locked = programs::locked_in(&folder);
+    assert_eq!(locked, ["asking", "cfg-expr", "cfgx", "mine"]);
 }
 
 // One test, since all builds share a folder, where the crate is built once.
@@ -134,4 +138,31 @@ fn a_program_and_its_dependency_have_one_type() {
         programs::write(&folder, &patched, PROGRAM);
         check_patched(&folder);
     }
+}
+
+/// A program that names what `cfgx` has beside the items of `cfg-expr`.
+const BEYOND: &str = r#"
+use cfg_expr::targets::{Rustc, RustcCfgError, RustcError, builtin_facts};
+use cfg_expr::{Audit, Decision, Expression, FactError, Facts, Otherwise, audit, audit_with};
+
+fn values(facts: &[Facts]) -> Result<Audit, FactError> {
+    audit_with(&[Expression::parse("test").unwrap()], facts, Otherwise::False)
+}
+
+fn main() {
+    let facts = [builtin_facts("wasm32-unknown-unknown").unwrap()];
+    let decision = Expression::parse("unix").unwrap().decide(|_| Some(true));
+    assert_eq!(decision, Decision::Known(true));
+    assert_eq!(values(&facts).unwrap().row(0), [Some(false)]);
+    assert!(audit(&[], &facts).is_ok());
+    let _: fn(&Rustc, RustcError, RustcCfgError) = |_, _, _| ();
+}
+"#;
+
+#[test]
+fn the_package_has_all_that_the_crate_has() {
+    let folder = programs::folder_in(&programs::room("beyond"));
+    let needs = "[dependencies]\ncfg-expr = { path = \"../cfgx/bindings/rust/cfg-expr\" }\n";
+    let program = programs::built(&folder, needs, BEYOND, None);
+    assert!(Command::new(program).status().unwrap().success());
 }

@@ -63,6 +63,24 @@ pub fn cargo(folder: &Path, words: &[&str]) -> Command {
     command
 }
 
+/// Returns the command that runs Cargo on a package of this repository, whose lock file has the
+/// optional dependency too. An empty stand-in takes its place.
+pub fn cargo_on_own(folder: &Path, words: &[&str]) -> Command {
+    let config = Path::new(env!("CARGO_MANIFEST_DIR")).join("tests/offline/config.toml");
+    let mut command = cargo(folder, words);
+    command.arg("--config").arg(config);
+    command
+}
+
+/// Returns the names of the packages that the lock file in `folder` has, in order.
+pub fn locked_in(folder: &Path) -> Vec<String> {
+    let lock = fs::read_to_string(folder.join("Cargo.lock")).unwrap();
+    let names = lock.lines().filter_map(|line| line.strip_prefix("name = "));
+    names
+        .map(|name| name.trim_matches('"').to_string())
+        .collect()
+}
+
 /// Panics unless the command succeeds. Returns what it writes to its standard error.
 pub fn succeed(command: &mut Command) -> String {
     let output = command.output().unwrap();

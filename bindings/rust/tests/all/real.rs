@@ -2,11 +2,10 @@
 
 use super::rows::table;
 use super::{engine, programs};
-use cfgx::targets::get_builtin_target_by_triple;
-use cfgx::{Expression, Predicate};
+use cfgx::targets::{ALL_BUILTINS, builtin_facts, get_builtin_target_by_triple};
+use cfgx::{Expression, Otherwise, Predicate, audit_with};
 use std::fs::{self, File};
 use std::path::Path;
-use std::process::Command;
 
 /// Returns the conditions, one on each line.
 fn conditions() -> String {
@@ -16,17 +15,21 @@ fn conditions() -> String {
     conditions
 }
 
+/// Returns the value of a condition on a target, which decides it.
+fn value_on(text: &str, triple: &str) -> bool {
+    let target = get_builtin_target_by_triple(triple).unwrap();
+    let expression = Expression::parse(text).unwrap();
+    expression.eval(|predicate| match predicate {
+        Predicate::Target(asked) => asked.matches(target),
+        other => panic!("{other:?} of {text}"),
+    })
+}
+
 /// Panics unless each condition has the value on a target that the program prints.
 fn check(conditions: &str, triple: &str) {
-    let target = get_builtin_target_by_triple(triple).unwrap();
     for text in conditions.lines() {
-        let value: bool = Expression::parse(text)
-            .unwrap()
-            .eval(|predicate| match predicate {
-                Predicate::Target(asked) => asked.matches(target),
-                other => panic!("{other:?} of {text}"),
-            });
         let printed = engine::run(&["target", triple, text]);
+        let value = value_on(text, triple);
         assert_eq!((0, format!("{value}\n")), printed, "{text}");
     }
 }
@@ -40,15 +43,61 @@ fn each_has_the_value_that_the_program_prints() {
     }
 }
 
+/// Returns the values that Cargo gave: each target with those of the conditions in order. The file
+/// is made by `tests/real/record`.
+fn values_of_cargo() -> Vec<(String, Vec<bool>)> {
+    let path = Path::new(env!("CARGO_MANIFEST_DIR")).join("tests/real/values.txt");
+    let file = fs::read_to_string(path).unwrap();
+    let rows = file.lines().skip(1).map(|row| {
+        let (triple, digits) = row.split_once('\t').unwrap();
+        let digits = digits.chars().map(|digit| digit.to_digit(16).unwrap());
+        let bits = digits.flat_map(|digit| [8, 4, 2, 1].map(|bit| digit & bit != 0));
+        (triple.to_string(), bits.take(197).collect())
+    });
+    rows.collect()
+}
+
+#[test]
+fn each_has_the_value_of_cargo_on_each_target() {
+    let conditions = conditions();
+    let expected = values_of_cargo();
+    assert_eq!(expected.len(), ALL_BUILTINS.len());
+    for (triple, values) in expected {
+        assert_eq!(values.len(), conditions.lines().count());
+        for (text, value) in conditions.lines().zip(values) {
+            assert_eq!(value_on(text, &triple), value, "{text} on {triple}");
+        }
+    }
+}
+
+#[test]
+fn an_audit_has_the_values_of_cargo() {
+    let conditions: Vec<Expression> = conditions()
+        .lines()
+        .map(|text| Expression::parse(text).unwrap())
+        .collect();
+    let expected = values_of_cargo();
+    let facts: Vec<_> = expected
+        .iter()
+        .map(|(triple, _)| builtin_facts(triple).unwrap())
+        .collect();
+    let values = audit_with(&conditions, &facts, Otherwise::Unknown).unwrap();
+    for (row, condition) in conditions.iter().enumerate() {
+        for (column, (triple, expected)) in expected.iter().enumerate() {
+            let found = values.value(row, column);
+            assert_eq!(found, Some(expected[row]), "{condition} on {triple}");
+        }
+    }
+}
+
 /// Returns what the example prints of an input.
 fn printed_by_the_example(input: &str) -> String {
     let room = programs::room("example");
     let file = room.join("input");
     fs::write(&file, input).unwrap();
-    let output = Command::new(env!("CARGO"))
-        .args(["run", "--quiet", "--offline", "--example", "values"])
+    let own = Path::new(env!("CARGO_MANIFEST_DIR"));
+    let output = programs::cargo_on_own(own, &["run", "--quiet", "--example", "values"])
         .env("CARGO_TARGET_DIR", &room)
-        .current_dir(env!("CARGO_MANIFEST_DIR"))
         .stdin(File::open(file).unwrap())
         .output()
         .unwrap();

@@ -1,7 +1,7 @@
 //! `build.rs`, run in folders with archives and with programs that stand in for `pkg-config` and
 //! for `rt`: which archives it links, and what it tells Cargo to watch.
 
-use super::{child, programs};
+use super::{child, linked, programs};
 use std::env;
 use std::fs;
 use std::path::{Path, PathBuf};
@@ -155,8 +155,22 @@ const ROWS: &[Row] = &[
     },
 ];
 
+/// What is linked without an archive, and for a target that the library is not for.
+pub const NOT_FOUND: &str = "no-archive-of-cfgx-was-found-see-its-README";
+const NOT_SERVED: &str = "cfgx-is-for-x86-64-linux-alone-see-its-README";
+
+/// The variables that Cargo watches.
+const VARIABLES: [&str; 6] = [
+    "CFGX_LIB_DIR",
+    "DOCS_RS",
+    "PKG_CONFIG",
+    "PKG_CONFIG_LIBDIR",
+    "PKG_CONFIG_PATH",
+    "PKG_CONFIG_SYSROOT_DIR",
+];
+
 /// Makes an empty room with these archives, in which the crate stands in its repository.
-fn make_room(room: &Path, archives: &[&str]) {
+pub fn make_room(room: &Path, archives: &[&str]) {
     let _ = fs::remove_dir_all(room);
     fs::create_dir_all(room.join("repository/bindings/rust")).unwrap();
     for archive in archives {
@@ -175,7 +189,7 @@ const SERVED: [(&str, &str); 4] = [
 ];
 
 /// Returns the command that runs the script in a room, with these programs on the path.
-fn command_in(room: &Path, script: &Path, programs: &[&str]) -> Command {
+pub fn command_in(room: &Path, script: &Path, programs: &[&str]) -> Command {
     let fakes = Path::new(env!("CARGO_MANIFEST_DIR")).join("tests/fake");
     let path = env::join_paths(programs.iter().map(|program| fakes.join(program)));
     let mut command = Command::new(script);
@@ -189,14 +203,14 @@ fn command_in(room: &Path, script: &Path, programs: &[&str]) -> Command {
 }
 
 /// Returns what the script prints.
-fn printed_by(command: &mut Command) -> String {
+pub fn printed_by(command: &mut Command) -> String {
     let output = command.output().unwrap();
     assert!(output.status.success(), "{output:?}");
     String::from_utf8(output.stdout).unwrap()
 }
 
 /// Returns what stands behind `before` in each line that begins with it.
-fn told<'a>(printed: &'a str, before: &str) -> Vec<&'a str> {
+pub fn told<'a>(printed: &'a str, before: &str) -> Vec<&'a str> {
     let lines = printed.lines();
     lines.filter_map(|line| line.strip_prefix(before)).collect()
 }
@@ -223,27 +237,28 @@ fn check(room: &Path, script: &Path, row: &Row) {
         row.searched,
         "{printed}"
     );
+    // Without an archive, a build that links fails by this name.
+    let (linked, warnings) = match row.linked {
+        [] => (&[NOT_FOUND][..], 1),
+        linked => (linked, 0),
+    };
     assert_eq!(
         told(&printed, "cargo::rustc-link-lib=static="),
-        row.linked,
+        linked,
         "{printed}"
     );
     let watched = told(&printed, "cargo::rerun-if-env-changed=");
-    let variables = ["CFGX_LIB_DIR", "DOCS_RS", "PKG_CONFIG_PATH"];
-    assert_eq!(watched, variables, "{printed}");
+    assert_eq!(watched, VARIABLES, "{printed}");
 
     let watched = paths("cargo::rerun-if-changed=");
     assert_eq!(watched, [&["build.rs"], row.watched].concat(), "{printed}");
-    let errors = told(&printed, "cargo::error=");
-    assert_eq!(
-        errors.len(),
-        usize::from(row.linked.is_empty()),
-        "{printed}"
-    );
+    let warned = told(&printed, "cargo::warning=");
+    assert_eq!(warned.len(), warnings, "{printed}");
+    assert!(!printed.contains("cargo::error"), "{printed}");
 }
 
 /// Compiles the script, and returns the program. Tests that run at once have rooms of their own.
-fn compiled(room: &Path) -> PathBuf {
+pub fn compiled(room: &Path) -> PathBuf {
     let script = room.join("script");
     let status = Command::new("rustc")
         .args(["--edition", "2024", "-o"])
@@ -266,45 +281,51 @@ fn each_archive_is_found_where_the_readme_says() {
     }
 }
 
-/// Panics unless the script says in one error each of these texts, in this order.
-fn check_error(command: &mut Command, texts: &[&str]) {
+/// Panics unless the script says in one warning each of these texts, in this order, and links the
+/// archive with this name alone, which no folder has. So only a build that links fails.
+fn check_warning(command: &mut Command, name: &str, texts: &[&str]) {
     let printed = printed_by(command);
-    let [error] = told(&printed, "cargo::error=")[..] else {
-        panic!("no error, or several: {printed}")
+    let [warning] = told(&printed, "cargo::warning=")[..] else {
+        panic!("no warning, or several: {printed}")
     };
-    let mut rest = error;
+    let mut rest = warning;
     for text in texts {
         let (_, behind) = rest.split_once(text).unwrap_or_else(|| {
-            panic!("no {text} in {error}");
+            panic!("no {text} in {warning}");
         });
         rest = behind;
     }
-    assert!(!printed.contains("cargo::rustc-link"), "{printed}");
+    let linked = told(&printed, "cargo::rustc-link-");
+    assert_eq!(linked, [format!("lib=static={name}")], "{printed}");
+    assert!(!printed.contains("cargo::error"), "{printed}");
 }
 
-/// Panics unless the error names each place that was looked at, in order.
+/// Panics unless the warning names each place that was looked at, in order.
 fn check_places(room: &Path, script: &Path) {
     let mut command = command_in(room, script, &["pkg-config"]);
     let known = format!("no libcfgx.a in {};", room.join("known").display());
     let how = "Run `crates/cfgx_c/install out/cfgx`";
     let own = ["bindings/rust/lib;", "out/cfgx/lib;", "crates/cfgx_c/out."];
-    check_error(&mut command, &[own[0], &known, own[1], own[2], how]);
+    let places = [own[0], &known, own[1], own[2], how];
+    check_warning(&mut command, NOT_FOUND, &places);
     let mut command = command_in(room, script, &[]);
-    let known = "pkg-config knows no `cfgx >= 2.2.1` and `cfgx < 2.3`;";
-    check_error(&mut command, &[own[0], known, own[1], own[2], how]);
+    let (needed, later) = (linked::named(linked::VERSION), next_major());
+    let known = format!("pkg-config knows no `cfgx >= {needed}` and `cfgx < {later}`;");
+    let places = [own[0], &known, own[1], own[2], how];
+    check_warning(&mut command, NOT_FOUND, &places);
 
     let named = format!("no libcfgx.a in {}.", room.join("named").display());
     let mut command = command_in(room, script, &["pkg-config"]);
     command.env("CFGX_LIB_DIR", room.join("named"));
-    check_error(&mut command, &[&named, how, "CFGX_LIB_DIR"]);
+    check_warning(&mut command, NOT_FOUND, &[&named, how, "CFGX_LIB_DIR"]);
 }
 
 #[test]
-fn an_error_names_each_place_and_the_command() {
-    if !child::is_there("rustc", "the errors of `build.rs` were not tested") {
+fn a_warning_names_each_place_and_the_command() {
+    if !child::is_there("rustc", "the warnings of `build.rs` were not tested") {
         return;
     }
-    let room = programs::room("errors");
+    let room = programs::room("warnings");
     let script = compiled(&room);
     let room = room.join("room");
     make_room(&room, &[]);
@@ -315,7 +336,7 @@ fn an_error_names_each_place_and_the_command() {
         let mut command = command_in(&room, &script, &["pkg-config"]);
         command.env("CFGX_LIB_DIR", folder).current_dir(&room);
         let said = format!("CFGX_LIB_DIR is `{folder}`, which is no absolute path");
-        check_error(&mut command, &[&said]);
+        check_warning(&mut command, NOT_FOUND, &[&said]);
     }
     for (triple, arch, system, width) in [
         ("aarch64-unknown-linux-gnu", "aarch64", "linux", "64"),
@@ -328,26 +349,37 @@ fn an_error_names_each_place_and_the_command() {
             .env("CARGO_CFG_TARGET_ARCH", arch)
             .env("CARGO_CFG_TARGET_OS", system)
             .env("CARGO_CFG_TARGET_POINTER_WIDTH", width);
-        check_error(
-            &mut command,
-            &[&format!("x86-64 Linux alone, and not for {triple}")],
-        );
+        let said = format!("x86-64 Linux alone, and not for {triple}");
+        check_warning(&mut command, NOT_SERVED, &[&said]);
         let printed = printed_by(command.env("DOCS_RS", "1"));
-        assert!(!printed.contains("cargo::error"), "{printed}");
-        assert!(!printed.contains("cargo::rustc-link"), "{printed}");
+        let is_told = |text| printed.contains(text);
+        assert!(!is_told("cargo::warning") && !is_told("cargo::error"));
+        assert!(!is_told("cargo::rustc-link"), "{printed}");
     }
 }
 
-/// Versions of installations, and whether the crate takes them.
-const VERSIONS: [(&str, bool); 7] = [
-    ("2.2.0", false),
-    ("2.2.1", true),
-    ("2.2.10", true),
-    ("2.3.0", false),
-    ("2.20.0", false),
-    ("3.2.1", false),
-    ("1.9.9", false),
-];
+/// Returns the first two numbers of the next version whose calls may be others.
+fn next_major() -> String {
+    let named = linked::named(linked::VERSION + 1000);
+    named.rsplit_once('.').unwrap().0.to_string()
+}
+
+/// Returns versions of installations, and whether the crate takes them. Some sort otherwise as
+/// texts than as numbers.
+fn versions() -> Vec<(String, bool)> {
+    let own = linked::named(linked::VERSION);
+    let (calls, _) = own.rsplit_once('.').unwrap();
+    vec![
+        (linked::named(linked::VERSION - 1), false),
+        (format!("{own}0"), true),
+        (format!("{}.0", next_major()), false),
+        (format!("{calls}0.0"), false),
+        (linked::named(linked::VERSION + 1_000_000), false),
+        (linked::named(linked::VERSION - 1_000_000), false),
+        (linked::named(linked::VERSION - 1_000_000 + 7008), false),
+        (own, true),
+    ]
+}
 
 #[test]
 fn pkg_config_gives_a_version_that_fits() {
@@ -359,7 +391,7 @@ fn pkg_config_gives_a_version_that_fits() {
     let script = compiled(&room);
     let room = room.join("room");
     make_room(&room, &["known/libcfgx.a"]);
-    for (version, is_taken) in VERSIONS {
+    for (version, is_taken) in versions() {
         let folder = room.join("known");
         let text = format!(
             "libdir={}\nName: cfgx\nDescription: conditions\nVersion: {version}\n",
@@ -373,6 +405,6 @@ fn pkg_config_gives_a_version_that_fits() {
         let printed = printed_by(&mut command);
         let linked = format!("cargo::rustc-link-search=native={}\n", folder.display());
         assert_eq!(printed.contains(&linked), is_taken, "{version}: {printed}");
-        assert_eq!(printed.contains("cargo::error="), !is_taken, "{version}");
+        assert_eq!(printed.contains(NOT_FOUND), !is_taken, "{version}");
     }
 }

@@ -193,7 +193,9 @@ fn fillings() {
         let mut answers = row[1].chars().map(answer_of);
         let found = match expression.decide(|_| answers.next().unwrap()) {
             Decision::Known(value) => value.to_string(),
-            Decision::Unknown { if_true, if_false } => {
+            Decision::Unknown {
+                if_true, if_false, ..
+            } => {
                 let digits = |values: Vec<bool>| -> String {
                     values
                         .into_iter()
@@ -202,6 +204,7 @@ fn fillings() {
                 };
                 format!("{} {}", digits(if_true), digits(if_false))
             }
+            other => panic!("{other:?}"),
         };
         assert_eq!(found, row[2], "{} over {}", row[0], row[1]);
         assert_eq!(answers.next(), None);

@@ -320,3 +320,19 @@ fn the_page_names_the_targets_that_differ() {
     assert_eq!(others.len(), 3);
     assert!(others.iter().all(is_here), "{others:?}");
 }
+
+/// Texts that name no width of atomics in `cfg-expr` either.
+const NO_WIDTHS: [&str; 10] = [
+    "", " ", " ptr", "ptr ", "\tptr", "Ptr", "ptrs", " 8", "8 ", "-8",
+];
+
+#[test]
+fn texts_that_name_no_width_are_errors() {
+    for text in NO_WIDTHS {
+        let error = text.parse::<HasAtomic>().unwrap_err();
+        assert_eq!(
+            error.to_string(),
+            format!("expected integer or \"ptr\", found {text}")
+        );
+    }
+}

@@ -1,14 +1,12 @@
 /* A library for tests in place of that of cfgx. It ends the process if a pointer is null, prints
- * the name of each call, and returns some result. Each text is a condition without predicates,
- * whose steps push true: one for each `+`, and one if there is none. Its tokens are those `+`. A
- * text or a fact with a `!` is faulty. The version is that of the header, or what CFGX_TEST_VERSION
- * says. */
+ * the name of each call, and returns some result. Each text is a condition without predicates: an
+ * `all` that has a member `true` for each `+` but the first. Its tokens are those `+`. A text or a
+ * fact with a `!` is faulty. The version is that of the header, or what CFGX_TEST_VERSION says. */
 #include "cfgx.h"
 #include <stdio.h>
 #include <stdlib.h>
 #include <string.h>
 
-#undef cfgx_decide
 #undef cfgx_compile
 #undef cfgx_audit
 #undef cfgx_tokens
@@ -50,22 +48,6 @@ uint32_t cfgx_version(void)
     return version != NULL ? (uint32_t)strtoul(version, NULL, 10) : CFGX_VERSION;
 }
 
-uint32_t cfgx_decide(const char *text, size_t text_length, const uint8_t *answers,
-                     size_t answer_count, uint8_t *fillings, size_t room, size_t *needed,
-                     uint8_t *value, struct cfgx_fault *fault)
-{
-    (void)answer_count;
-    (void)room;
-    tell(__func__);
-    GIVEN(answers);
-    GIVEN(fillings);
-    GIVEN(needed);
-    GIVEN(value);
-    *needed = 0;
-    *value = CFGX_VALUE_TRUE;
-    return status_of(text, text_length, CFGX_STATUS_FAULTY, fault);
-}
-
 /* Returns how often `+` stands in a text. */
 static size_t count_of(const char *text, size_t length)
 {
@@ -91,8 +73,8 @@ uint32_t cfgx_compile(const char *text, size_t text_length, struct cfgx_step *st
     *steps_needed = status != CFGX_STATUS_DONE ? 0 : count > 0 ? count : 1;
     *predicates_needed = 0;
     for (i = 0; i < *steps_needed && *steps_needed <= step_room; i++) {
-        steps[i].kind = CFGX_STEP_TRUE;
-        steps[i].count = 0;
+        steps[i].kind = i == 0 ? CFGX_STEP_ALL : CFGX_STEP_TRUE;
+        steps[i].number = i == 0 ? *steps_needed - 1 : 0;
     }
     return status;
 }

@@ -3,15 +3,18 @@ import dataclasses
 import difflib
 import json
 import os
-import subprocess
 from typing import Any, Dict, FrozenSet, Optional, Sequence, Tuple
 
+from .. import _process
+from . import _files
 from ._errors import CargoError, RequestError
 
 KINDS = ("normal", "dev", "build")
-# Cargo and rustc start in this folder. rustup takes both from where the file `rust-toolchain.toml`
-# of the current folder says, and Cargo reads the configuration of the current folder.
-START = os.sep
+# How long the command waits for cargo by itself, in seconds.
+TIMEOUT = 60.0
+# What cargo may print, in bytes, and the data that its process may have. A manifest of a megabyte
+# may define a long list once, and make cargo print it ten thousand times.
+MOST_PRINTED, MOST_DATA = 32 << 20, 1 << 30
 
 
 @dataclasses.dataclass(frozen=True)
@@ -51,6 +54,11 @@ class Package:
     has_target_units: bool
     """Whether Cargo builds something of it for the target: a library that is no proc-macro, or a
     binary, a test, an example or a benchmark."""
+    has_macro_tests: bool
+    """Whether something reads its dev-dependencies that Cargo builds for the host: tests of a
+    proc-macro, or an example that is one."""
+    has_target_tests: bool
+    """Whether something reads its dev-dependencies that Cargo builds for the target."""
 
     @property
     def folder(self) -> str:
@@ -72,13 +80,14 @@ class Workspace:
         workspace or those of the manifest. Raises `RequestError`."""
         if not names:
             return self.packages if is_whole else self.own
-        known = [one.name for one in self.packages]
+        known = dict.fromkeys(one.name for one in self.packages)
         missing = [name for name in names if name not in known]
         if missing:
             close = difflib.get_close_matches(missing[0], known, 1)
             hint = f"; is it {close[0]}?" if close else ""
             raise RequestError(f"the workspace has no package {missing[0]}{hint}")
-        return tuple(one for one in self.packages if one.name in names)
+        wanted = frozenset(names)
+        return tuple(one for one in self.packages if one.name in wanted)
 
 
 def manifest_above(folder: str) -> str:
@@ -105,19 +114,40 @@ def manifest_at(path: Optional[str]) -> str:
     return os.path.join(whole, "Cargo.toml") if os.path.isdir(whole) else whole
 
 
-def output_of(*words: str) -> str:
-    """Returns what `cargo` prints with these words, of which the last says what it may refuse.
-    Raises `CargoError`."""
-    pipe = subprocess.PIPE
+def expect_fit(manifest: str) -> None:
+    """Raises `CargoError` for a manifest that is no regular file, or too large. Cargo would wait
+    for a FIFO, and read a device to its end."""
     try:
-        run = subprocess.run(["cargo", *words], cwd=START, stdin=subprocess.DEVNULL, stdout=pipe,
-                             stderr=pipe, check=False)
+        _files.expect_fit(manifest)
+    except (FileNotFoundError, NotADirectoryError):
+        # Cargo says what is missing.
+        pass
+    except OSError as error:
+        raise CargoError(f"{manifest} cannot be read: {error.strerror}") from error
+    except ValueError as error:
+        raise CargoError(f"{manifest} cannot be read: {error}") from error
+
+
+def expect_time(seconds: float) -> None:
+    """Raises `RequestError` for what is no time to wait for cargo."""
+    if not 0 < seconds < float("inf"):
+        raise RequestError(f"{seconds} is no time to wait for cargo: one is a number of seconds")
+
+
+def output_of(*words: str, seconds: float) -> str:
+    """Returns what `cargo` prints within some seconds with these words, of which the last says what
+    it may refuse. Raises `CargoError`."""
+    limits = _process.Limits(seconds, MOST_PRINTED, MOST_DATA)
+    try:
+        run = _process.run(["cargo", *words], limits)
     except FileNotFoundError as error:
         message = "there is no cargo on the path, and only cargo reads a manifest"
         raise CargoError(message) from error
     except (OSError, ValueError) as error:
         raise CargoError(f"cargo could not be run: {error}") from error
-    if run.returncode != 0:
+    except _process.LimitError as error:
+        raise CargoError(f"cargo {error}, and was ended: {words[-1]}") from error
+    if run.status != 0:
         raise CargoError(f"cargo refuses {words[-1]}:{quoted(run.stderr)}")
     return run.stdout.decode(errors="replace")
 
@@ -129,19 +159,20 @@ def quoted(message: bytes) -> str:
     return "".join(f"\n    {line}" for line in lines)
 
 
-def host() -> str:
+def host(seconds: float = TIMEOUT) -> str:
     """Returns the triple of the machine on which `cargo` runs."""
-    for line in output_of("-vV").splitlines():
+    for line in output_of("-vV", seconds=seconds).splitlines():
         if line.startswith("host: "):
             return line[6:]
     raise CargoError("cargo -vV names no host")
 
 
-def workspace_of(manifest: str) -> Workspace:
-    """Returns what Cargo lists of the manifest with a whole path. Raises `CargoError`."""
-    text = output_of(
-        "metadata", "--no-deps", "--format-version", "1", "--manifest-path", manifest
-    )
+def workspace_of(manifest: str, seconds: float = TIMEOUT) -> Workspace:
+    """Returns what Cargo lists within some seconds of the manifest with a whole path. Raises
+    `CargoError`."""
+    expect_fit(manifest)
+    words = ("metadata", "--no-deps", "--format-version", "1", "--manifest-path", manifest)
+    text = output_of(*words, seconds=seconds)
     try:
         packages = tuple(map(package_of, json.loads(text)["packages"]))
     except (ValueError, LookupError, TypeError, AttributeError, RecursionError) as error:
@@ -153,19 +184,43 @@ def workspace_of(manifest: str) -> Workspace:
 
 def package_of(listed: Dict[str, Any]) -> Package:
     """Returns a package that Cargo lists."""
-    name, kinds = listed["name"], [kinds_of(one) for one in listed["targets"]]
+    name = listed["name"]
+    parts = [one for one in map(part_of, listed["targets"]) if one.is_built]
+    macros = [one for one in parts if "proc-macro" in one.kinds]
+    others = [one for one in parts if not one.kinds & {"custom-build", "proc-macro"}]
     return Package(
         name, listed["manifest_path"],
         tuple(dependency_of(name, one) for one in listed["dependencies"]),
-        has_build_script=any("custom-build" in one for one in kinds),
-        has_macro=any("proc-macro" in one for one in kinds),
-        has_target_units=any(not one & {"custom-build", "proc-macro"} for one in kinds),
+        has_build_script=any("custom-build" in one.kinds for one in parts),
+        has_macro=bool(macros), has_target_units=bool(others),
+        has_macro_tests=any(one.is_tested for one in macros),
+        has_target_tests=any(one.is_tested for one in others),
     )
 
 
-def kinds_of(target: Dict[str, Any]) -> FrozenSet[str]:
-    """Returns the kinds of a target that Cargo lists, and of the crates that it is compiled to."""
-    return frozenset(target["kind"]) | frozenset(target["crate_types"])
+@dataclasses.dataclass(frozen=True)
+class Part:
+    """A part of a package, such as its library, which Cargo calls a target."""
+
+    kinds: FrozenSet[str]
+    """Its kinds, and those of the crates that it is compiled to."""
+    is_tested: bool
+    """Whether it is a test, an example or a benchmark, or has unit tests or documentation tests.
+    This is what reads dev-dependencies."""
+    is_built: bool
+    """Whether Cargo builds it if nothing asks for it by its name."""
+
+
+def part_of(listed: Dict[str, Any]) -> Part:
+    """Returns a part of a package that Cargo lists. Its `test` and `doctest` are those of the
+    manifest, where both are true by default."""
+    kinds = frozenset(listed["kind"])
+    has_tests = listed.get("test", True) or listed.get("doctest", True)
+    return Part(
+        kinds | frozenset(listed["crate_types"]),
+        is_tested=has_tests or bool(kinds & {"test", "example", "bench"}),
+        is_built="test" not in kinds or listed.get("test", True),
+    )
 
 
 def dependency_of(package: str, listed: Dict[str, Any]) -> Dependency:

@@ -3,6 +3,7 @@ import os
 import re
 from typing import Iterable, Iterator, List, Mapping, Optional, Tuple
 
+from . import _files
 from ._errors import RequestError
 
 KEY = r"(?:r#)?([A-Za-z_][A-Za-z0-9_]*)"
@@ -20,6 +21,8 @@ CODEGEN = ("target-feature", "target-cpu", "panic", "debug-assertions", "opt-lev
 # The word that a file has if it configures flags, where no comment begins before it.
 CONFIGURED = re.compile(r"^[^#\n]*\brustflags\b", re.MULTILINE)
 CONFIGURATIONS = ("config.toml", "config")
+# How many of these files are read. A path may lead through two thousand folders.
+MOST_CONFIGURATIONS = 32
 
 
 def text_of(found: "re.Match[str]") -> str:
@@ -76,23 +79,33 @@ def changing(option: str, value: str) -> Iterator[str]:
         yield f"{option} {value}".rstrip()
 
 
-def configurations_with_flags(folder: str, environment: Mapping[str, str]) -> List[str]:
-    """Returns the files of configuration that Cargo would read in a folder and that have
-    `rustflags`."""
-    folders, above = [], folder
-    while above not in folders:
+def notes_on_configurations(folder: str, environment: Mapping[str, str]) -> Iterator[str]:
+    """Yields a sentence for each file of configuration that Cargo would read in a folder and that
+    has `rustflags`, or is there and was not read."""
+    there = [path for path in configurations(folder, environment) if os.path.lexists(path)]
+    for path in there[:MOST_CONFIGURATIONS]:
+        try:
+            if has_flags(path):
+                yield f"{path} has rustflags, which are not read; --cfg says which flags are set"
+        except OSError as error:
+            yield f"{path} was not read: {error.strerror}"
+    reason = f"was not read: it is behind {MOST_CONFIGURATIONS} others"
+    yield from (f"{path} {reason}" for path in there[MOST_CONFIGURATIONS:])
+
+
+def configurations(folder: str, environment: Mapping[str, str]) -> Iterable[str]:
+    """Returns the paths at which Cargo looks for a file of configuration in a folder."""
+    folders, above = [folder], os.path.dirname(folder)
+    while above != folders[-1]:
         folders.append(above)
         above = os.path.dirname(above)
     paths = [os.path.join(one, ".cargo", name) for one in folders for name in CONFIGURATIONS]
     own = environment.get("CARGO_HOME") or os.path.join(os.path.expanduser("~"), ".cargo")
     paths += [os.path.join(own, name) for name in CONFIGURATIONS]
-    return [path for path in dict.fromkeys(paths) if has_flags(path)]
+    return dict.fromkeys(paths)
 
 
 def has_flags(path: str) -> bool:
-    """Whether a file that can be read has the word `rustflags` outside of comments."""
-    try:
-        with open(path, encoding="utf-8", errors="replace") as file:
-            return CONFIGURED.search(file.read()) is not None
-    except OSError:
-        return False
+    """Whether a file has the word `rustflags` outside of comments. Raises `OSError` if it cannot be
+    read."""
+    return CONFIGURED.search(_files.bytes_of(path).decode(errors="replace")) is not None

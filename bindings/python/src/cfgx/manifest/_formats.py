@@ -1,74 +1,113 @@
 """A report for programs."""
 import json
-from typing import Any, Dict, Iterator, List, Optional
+from typing import Any, Iterable, Iterator, Mapping, Optional, Sequence
 
-from ._conditions import Unknown
+from ._conditions import Fault, Unknown, groups_in
 from ._errors import shown
-from ._report import Report, Row
-from ._summary import summary_of
+from ._once import Once
+from ._report import Report, Row, Value
+from ._summary import Summary, summary_of
 from ._table import COUNTED
 
 # The version of the form of the JSON. A later one may have more members.
 VERSION = 1
+TRUTH = {True: "true", False: "false"}
 
 
 def json_of(report: Report, is_summary: bool) -> Iterator[str]:
     """Yields the lines of one object of JSON, which is ASCII."""
     platforms = [
-        {"name": one.name, "triple": one.triple, "host": one.is_host} for one in report.platforms
+        json.dumps({"name": one.name, "triple": one.triple, "host": one.is_host})
+        for one in report.platforms
     ]
-    dependencies = [entry_of(row, report, is_summary) for row in report.rows]
     yield f'{{"version": {VERSION},'
     yield f'"manifest": {json.dumps(report.manifest_path)},'
     yield from list_of("platforms", platforms)
-    yield from list_of("dependencies", dependencies)
+    yield from list_of("dependencies", map(Entries(report, is_summary).entry, report.rows))
+    yield f'"tried": {json.dumps(report.is_tried)},'
     yield f'"notes": {json.dumps(report.notes)}}}'
 
 
-def list_of(name: str, items: List[Dict[str, Any]]) -> Iterator[str]:
+def list_of(name: str, items: Iterable[str]) -> Iterator[str]:
     """Yields the lines of a member that is a list, with an item on each line."""
     yield f'"{name}": ['
-    for place, item in enumerate(items, 1):
-        yield json.dumps(item) + ("," if place < len(items) else "")
+    before = None
+    for item in items:
+        if before is not None:
+            yield f"{before},"
+        before = item
+    if before is not None:
+        yield before
     yield "],"
 
 
-def entry_of(row: Row, report: Report, is_summary: bool) -> Dict[str, Any]:
-    """Returns the object of a row."""
-    one = row.dependency
-    entry: Dict[str, Any] = {
-        "package": one.package, "name": one.name, "renamed_from": one.renamed_from,
-        "kind": one.kind, "optional": one.is_optional, "condition": one.condition,
-    }
-    if is_summary:
-        summary = summary_of(row, report.platforms)
-        smaller: Optional[Dict[str, Any]] = None
-        if summary.smaller is not None:
-            smaller = {"value": summary.smaller.value, "platforms": list(summary.names)}
-        counts = {value.value: count for value, count in summary.counts.items()}
-        entry.update(counts=counts, smaller=smaller)
-    else:
-        entry["values"] = [value.value for value in row.values]
-    fault = row.fault
-    return {
-        **entry, "never": row.is_never, "unknown": unknown_of(row),
-        "fault": fault and {"reason": fault.reason.name, "span": list(fault.span)},
-    }
+class Entries:
+    """Makes the objects of rows. What many rows share is written once."""
+
+    def __init__(self, report: Report, is_summary: bool) -> None:
+        def summary_member(values: Sequence[Value]) -> str:
+            return members(**summary_members(summary_of(values, report.platforms)))
+
+        self._values = Once(summary_member if is_summary else values_member)
+        self._places = Once(number_list)
+        self._unknown = Once(self._unknown_member)
+        self._fault = Once(fault_member)
+
+    def entry(self, row: Row) -> str:
+        """Returns the object of a row."""
+        one = row.dependency
+        front = members(
+            package=one.package, name=one.name, renamed_from=one.renamed_from, kind=one.kind,
+            optional=one.is_optional, condition=one.condition,
+        )
+        never, tried = TRUTH[row.is_never], TRUTH[row.is_tried]
+        return (
+            f'{{{front}, {self._values(row.values)}, "never": {never},'
+            f' {self._unknown(row.unknown)}, "tried": {tried}, {self._fault(row.fault)}}}'
+        )
+
+    def _unknown_member(self, unknown: Mapping[int, Unknown]) -> str:
+        """Returns the member with the reasons why values of a row are unknown: each reason once,
+        with the numbers of the platforms that have it."""
+        reasons = (
+            f'{{"platforms": {self._places(places)}, {reason_members(reason)}}}'
+            for reason, places in groups_in(unknown)
+        )
+        return f'"unknown": [{", ".join(reasons)}]'
 
 
-def unknown_of(row: Row) -> List[Dict[str, Any]]:
-    """Returns why values of a row are unknown: each reason once, with the numbers of the platforms
-    that have it."""
-    places: Dict[int, List[int]] = {}
-    reasons: Dict[int, Unknown] = {}
-    for place, reason in row.unknown.items():
-        places.setdefault(id(reason), []).append(place)
-        reasons[id(reason)] = reason
-    return [
-        {"platforms": places[key], "flags": list(reason.flags), "if_yes": reason.if_yes,
-         "if_no": reason.if_no}
-        for key, reason in reasons.items()
-    ]
+def number_list(numbers: Sequence[int]) -> str:
+    """Returns a list of numbers."""
+    return json.dumps(numbers)
+
+
+def reason_members(reason: Unknown) -> str:
+    """Returns the members of a reason."""
+    return members(flags=reason.flags, if_yes=reason.if_yes, if_no=reason.if_no)
+
+
+def members(**values: Any) -> str:
+    """Returns members of an object, as JSON has them."""
+    return json.dumps(values)[1:-1]
+
+
+def values_member(values: Sequence[Value]) -> str:
+    """Returns the member with the values of a row."""
+    return members(values=[value.value for value in values])
+
+
+def summary_members(summary: Summary) -> Mapping[str, Any]:
+    """Returns the members with the numbers of platforms, and with the smaller group."""
+    smaller = None
+    if summary.smaller is not None:
+        smaller = {"value": summary.smaller.value, "platforms": list(summary.names)}
+    counts = {value.value: count for value, count in summary.counts.items()}
+    return {"counts": counts, "smaller": smaller}
+
+
+def fault_member(fault: Optional[Fault]) -> str:
+    """Returns the member with the fault of a condition, or with null."""
+    return members(fault=fault and {"reason": fault.reason.name, "span": list(fault.span)})
 
 
 def tsv_of(report: Report, is_summary: bool) -> Iterator[str]:
@@ -77,15 +116,20 @@ def tsv_of(report: Report, is_summary: bool) -> Iterator[str]:
     if is_summary:
         names = [value.value for value in COUNTED] + ["never"]
     yield tabbed("package", "dependency", "kind", "optional", *names, "condition")
+
+    def counted(values: Sequence[Value]) -> str:
+        counts = summary_of(values, report.platforms).counts
+        return tabbed(*(str(counts[value]) for value in COUNTED))
+
+    def listed(values: Sequence[Value]) -> str:
+        return tabbed(*(value.value for value in values))
+
+    cells = Once(counted if is_summary else listed)
     for row in report.rows:
         one = row.dependency
-        cells = [value.value for value in row.values]
-        if is_summary:
-            counts = summary_of(row, report.platforms).counts
-            cells = [str(counts[value]) for value in COUNTED]
-            cells.append("yes" if row.is_never else "no")
-        is_optional = "yes" if one.is_optional else "no"
-        yield tabbed(one.package, one.name, one.kind, is_optional, *cells, one.condition or "")
+        front = tabbed(one.package, one.name, one.kind, "yes" if one.is_optional else "no")
+        never = ["yes" if row.is_never else "no"] if is_summary else []
+        yield "\t".join([front, cells(row.values), *never, shown(one.condition or "")])
 
 
 def tabbed(*cells: str) -> str:

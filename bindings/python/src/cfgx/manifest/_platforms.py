@@ -1,12 +1,13 @@
 """The platforms of a report: the host, and the targets that are named."""
 import dataclasses
+import io
 import os
-import subprocess
 from typing import FrozenSet, Iterable, List, Mapping, Optional, Sequence, Tuple, Union
 
 import cfgx
 
-from . import _cargo, _flags
+from .. import _process
+from . import _cargo, _files, _flags
 from ._errors import CompilerError, FactsError, RequestError
 
 # The names that stand for all targets and for the host.
@@ -55,15 +56,17 @@ class Flags:
 class Table:
     """The facts in the package's own table of targets."""
 
-    def __init__(self, flags: Flags) -> None:
-        """Raises `RequestError` if an argument of rustc changes facts, as only a compiler knows."""
+    def __init__(self, flags: Flags, cargo_timeout: float = _cargo.TIMEOUT) -> None:
+        """`cargo_timeout` is how long to wait for cargo, in seconds. Raises `RequestError` if an
+        argument of rustc changes facts, as only a compiler knows."""
+        self._cargo_timeout = cargo_timeout
         _, others = _flags.divided(flags.rustflags)
         if others:
             raise RequestError(f"RUSTFLAGS has {others[0]}: what it changes needs --rustc")
 
     def host(self) -> str:
         """Returns the triple of the host."""
-        return _cargo.host()
+        return _cargo.host(self._cargo_timeout)
 
     def targets(self) -> Sequence[str]:
         """Returns the triples of all targets."""
@@ -107,15 +110,11 @@ class Compiler:
 
     def _printed(self, *words: str) -> List[str]:
         """Returns the lines that the compiler prints with these words."""
-        pipe = subprocess.PIPE
         try:
-            run = subprocess.run(
-                [self._program, *words], cwd=_cargo.START, stdin=subprocess.DEVNULL, stdout=pipe,
-                stderr=pipe, check=False,
-            )
+            run = _process.run([self._program, *words])
         except (OSError, ValueError) as error:
             raise CompilerError(f"{self._program} could not be run: {error}") from error
-        if run.returncode != 0:
+        if run.status != 0:
             message = _cargo.quoted(run.stderr)
             raise CompilerError(f"{self._program} refuses {' '.join(words)}:{message}")
         lines = run.stdout.decode(errors="replace").split("\n")
@@ -139,13 +138,14 @@ def facts_in(lines: Iterable[str], where: str) -> FrozenSet[str]:
 
 def read_facts(path: str) -> Tuple[str, List[str]]:
     """Returns the triple that the name of a file of facts has, and its lines. Raises `FactsError`,
-    also if a key is missing that each target has. Then rustc wrote no or half a file."""
+    also if it is no regular file or too large, and if a key is missing that each target has. Then
+    rustc wrote no or half a file."""
     name = os.path.basename(path)
     stem, end = os.path.splitext(name)
     try:
+        data = io.BytesIO(_files.bytes_of(path))
         # A file of another system may begin with a mark that says it is UTF-8.
-        with open(path, encoding="utf-8-sig") as file:
-            lines = file.read().split("\n")
+        lines = io.TextIOWrapper(data, encoding="utf-8-sig").read().split("\n")
     except UnicodeDecodeError as error:
         raise FactsError(f"{path} is not UTF-8: {error}") from error
     except OSError as error:

@@ -6,7 +6,7 @@ from typing import Dict, Iterable, List, Mapping, Optional, Sequence, Tuple
 
 from . import _cargo, _flags, _platforms
 from ._cargo import Dependency, Package
-from ._conditions import Fault, Unknown, Values, values_of
+from ._conditions import Fault, Reasons, Unknown, Values, values_of
 from ._errors import RequestError
 from ._platforms import Flags, Platform
 from ._units import Sides, Units
@@ -26,6 +26,8 @@ class Value(enum.Enum):
 
 
 VALUES = {True: Value.YES, False: Value.NO, None: Value.UNKNOWN}
+# The variable of the environment that stands for `build.target` of a configuration file.
+BUILD_TARGET = "CARGO_BUILD_TARGET"
 
 
 @dataclasses.dataclass(frozen=True)
@@ -42,6 +44,9 @@ class Row:
     """Why a value is unknown, by the number of the platform."""
     fault: Optional[Fault]
     """Why the engine refuses the condition, which Cargo accepts."""
+    is_tried: bool = True
+    """Whether each unknown value was tried out. If not, it may be known after all, since a report
+    tries a bounded number of answers to flags."""
 
 
 @dataclasses.dataclass(frozen=True)
@@ -57,6 +62,11 @@ class Report:
     notes: Tuple[str, ...]
     """What was found and not taken into account, a sentence each."""
 
+    @property
+    def is_tried(self) -> bool:
+        """Whether each unknown value of each row was tried out."""
+        return all(row.is_tried for row in self.rows)
+
 
 def report(
     manifest: Optional[str] = None, targets: Sequence[str] = (), *,
@@ -65,6 +75,7 @@ def report(
     flags: Sequence[str] = (), has_other_flags: bool = True,
     rustflags: Optional[Sequence[str]] = None, asks_rustc: bool = False,
     host: Optional[str] = None, environment: Optional[Mapping[str, str]] = None,
+    cargo_timeout: float = _cargo.TIMEOUT,
 ) -> Report:
     """Returns which dependencies of a manifest Cargo takes, on the host and on targets.
 
@@ -81,22 +92,29 @@ def report(
     - `asks_rustc` lets `$RUSTC`, or the `rustc` on the path, say the facts.
     - `host` is a triple. Without one, `cargo -vV` names it, or `rustc -vV` with `asks_rustc`.
     - `environment` has the variables that Cargo reads, if not those of the process.
+    - `cargo_timeout` is how long to wait for each run of `cargo`, in seconds.
+
+    The manifest is a regular file of at most a megabyte, and so is each other file that is read.
+    The values that are unknown to the engine share a budget: beyond it, `is_tried` is false.
 
     Raises a `ManifestError`, or `TypeError` if a text stands for a list.
     """
     expect_lists(targets, packages, kinds, flags, rustflags or ())
     expect_kinds(kinds)
+    _cargo.expect_time(cargo_timeout)
     variables = os.environ if environment is None else environment
     known = Flags(tuple(flags), tuple(rustflags or ()), has_other_flags)
     source: _platforms.Source = (
-        _platforms.Compiler(known, variables) if asks_rustc else _platforms.Table(known)
+        _platforms.Compiler(known, variables) if asks_rustc
+        else _platforms.Table(known, cargo_timeout)
     )
     path = _cargo.manifest_at(manifest)
-    workspace = _cargo.workspace_of(path)
+    workspace = _cargo.workspace_of(path, cargo_timeout)
     chosen = workspace.chosen(packages, is_workspace)
     platforms = _platforms.platforms_of(source, targets, facts or {}, known, host)
     rows = rows_of(workspace.packages, chosen, kinds, platforms)
-    return Report(path, tuple(platforms), tuple(rows), tuple(notes_on(path, rustflags, variables)))
+    notes = notes_on(path, rustflags, variables, has_target=len(platforms) > 1)
+    return Report(path, tuple(platforms), tuple(rows), tuple(notes))
 
 
 def expect_lists(*lists: Sequence[str]) -> None:
@@ -126,35 +144,54 @@ def rows_of(
         (package.manifest_path, kind): units.sides_of(package, kind)
         for package in chosen for kind in kinds
     }
+    made = Rows()
     return [
-        row_of(dependency, values[dependency.condition], sides[package.manifest_path, kind])
+        made.row(dependency, values[dependency.condition], sides[package.manifest_path, kind])
         for package in chosen for dependency in package.dependencies
         for kind in [dependency.kind] if kind in kinds
     ]
 
 
-def row_of(dependency: Dependency, values: Values, sides: Sides) -> Row:
-    """Returns the row of a dependency that Cargo reads on these sides."""
-    is_read = [sides.host] + [sides.target] * (len(values.on) - 1)
-    shown = tuple(
-        VALUES[value] if is_there else Value.NOT_READ for value, is_there in zip(values.on, is_read)
+class Rows:
+    """Makes rows. What is equal in many of them is one object, since a manifest may have a hundred
+    thousand rows on three hundred platforms."""
+
+    def __init__(self) -> None:
+        self._values: Dict[Tuple[int, Sides], Tuple[Tuple[Value, ...], bool]] = {}
+        self._unknown: Dict[Tuple[int, Sides], Tuple[Reasons, bool]] = {}
+
+    def row(self, dependency: Dependency, values: Values, sides: Sides) -> Row:
+        """Returns the row of a dependency that Cargo reads on these sides."""
+        key = id(values.on), sides
+        if key not in self._values:
+            is_never = all(value is False for value in values.on)
+            self._values[key] = values_on(values.on, sides), is_never
+        reasons = id(values), sides
+        if reasons not in self._unknown:
+            unknown = values.unknown.on(sides.host, sides.target)
+            self._unknown[reasons] = unknown, all(one.is_tried for one, _ in unknown.groups)
+        (shown, is_never), (unknown, is_tried) = self._values[key], self._unknown[reasons]
+        return Row(dependency, shown, is_never, unknown, values.fault, is_tried)
+
+
+def values_on(on: Sequence[Optional[bool]], sides: Sides) -> Tuple[Value, ...]:
+    """Returns what a dependency is on each platform if Cargo reads it on these sides."""
+    is_read = [sides.host] + [sides.target] * (len(on) - 1)
+    return tuple(
+        VALUES[value] if is_there else Value.NOT_READ for value, is_there in zip(on, is_read)
     )
-    unknown: Dict[int, Unknown] = {
-        place: reason for place, reason in values.unknown.items() if is_read[place]
-    }
-    is_never = all(value is False for value in values.on)
-    return Row(dependency, shown, is_never, unknown, values.fault)
 
 
 def notes_on(
-    manifest: str, rustflags: Optional[Sequence[str]], environment: Mapping[str, str]
+    manifest: str, rustflags: Optional[Sequence[str]], environment: Mapping[str, str],
+    has_target: bool,
 ) -> Iterable[str]:
-    """Yields which settings of flags were found and not read."""
+    """Yields which settings of flags and of the target were found and not read."""
     for name in _flags.VARIABLES if rustflags is None else ():
         if environment.get(name):
             yield f"{name} is set and not read; --rustflags reads it"
     for name in sorted(filter(_flags.CONFIGURING.fullmatch, environment)):
         yield f"{name} is set and not read; --cfg says which flags are set"
-    folder = os.path.dirname(manifest)
-    for path in _flags.configurations_with_flags(folder, environment):
-        yield f"{path} has rustflags, which are not read; --cfg says which flags are set"
+    if environment.get(BUILD_TARGET) and not has_target:
+        yield f"{BUILD_TARGET} is set and not read; --target names a target"
+    yield from _flags.notes_on_configurations(os.path.dirname(manifest), environment)

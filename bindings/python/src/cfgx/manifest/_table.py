@@ -1,9 +1,13 @@
 """A report as a table for a terminal."""
 import collections
-from typing import Dict, Iterator, List, Optional, Sequence, Tuple
+import itertools
+from typing import (
+    Callable, Dict, Iterable, Iterator, List, NamedTuple, Optional, Sequence, Tuple,
+)
 
-from ._conditions import Unknown
+from ._conditions import Unknown, groups_in
 from ._errors import shown
+from ._once import Once
 from ._report import Report, Row, Value
 from ._summary import MOST_NAMED, Summary, summary_of
 
@@ -14,6 +18,7 @@ LEAST = 24
 # The values that a summary counts.
 COUNTED = (Value.YES, Value.NO, Value.UNKNOWN)
 EXPLANATION = "unknown: flags that RUSTFLAGS may set (see --cfg and --no-other-cfg)"
+NOT_TRIED = "not tried out, since a report tries a bounded number of answers"
 # The cells of a column, from the head on.
 Column = List[str]
 
@@ -34,34 +39,41 @@ def full_name_of(row: Row) -> str:
 def table_of(report: Report, width: Optional[int]) -> Iterator[str]:
     """Yields the lines of a table with a column for each platform. Without a width, no line is cut
     and no column moves below the others."""
-    names = [platform.name for platform in report.platforms]
-    fronts, last = fronts_of(report), conditions_of(report)
-    columns = [
-        [shown(name), *(row.values[place].value for row in report.rows)]
-        for place, name in enumerate(names)
-    ]
-    if width is not None and len(blocks_of(fronts, columns, last, width)) > 1:
-        for number, column in enumerate(columns[1:], 1):
-            yield f"{number}: {column[0]}"
-            column[0] = str(number)
-    yield from lines_of(fronts, columns, last, width)
+    heads = [shown(platform.name) for platform in report.platforms]
+    grid = Grid(fronts_of(report), heads, cells_by(report, value_cells), conditions_of(report))
+    if width is not None and len(blocks_of(grid, width)) > 1:
+        numbers = list(map(str, range(1, len(heads))))
+        yield from map(": ".join, zip(numbers, heads[1:]))
+        grid = grid._replace(heads=[heads[0], *numbers])
+    yield from lines_of(grid, width)
     yield from ends_of(report, width)
+
+
+def value_cells(values: Sequence[Value]) -> Sequence[str]:
+    """Returns the cells with the values of a row."""
+    return [value.value for value in values]
 
 
 def summary_table_of(report: Report, width: Optional[int]) -> Iterator[str]:
     """Yields the lines of a table with the number of platforms that have each value. If it exceeds
     the width, the smaller groups are a table of their own, below the numbers."""
-    summaries = [summary_of(row, report.platforms) for row in report.rows]
-    counts = [
-        [value.value, *(str(summary.counts[value]) for summary in summaries)] for value in COUNTED
-    ]
-    smaller = ["smaller group", *map(smaller_group_of, report.rows, summaries)]
-    fronts, last, columns = fronts_of(report), conditions_of(report), [*counts, smaller]
-    if width is None or len(blocks_of(fronts, columns, last, width)) == 1:
-        yield from lines_of(fronts, columns, last, width)
+    def summarized(values: Sequence[Value]) -> Summary:
+        return summary_of(values, report.platforms)
+
+    def numbers_of(values: Sequence[Value]) -> Sequence[str]:
+        return [str(summary.counts[value]) for summary in [summaries(values)] for value in COUNTED]
+
+    summaries = Once(summarized)
+    groups = ["smaller group"]
+    groups += [smaller_group_of(row, summaries(row.values)) for row in report.rows]
+    heads = [value.value for value in COUNTED]
+    counts = Grid(fronts_of(report), heads, cells_by(report, numbers_of), conditions_of(report))
+    whole = with_column(counts, groups)
+    if width is None or len(blocks_of(whole, width)) == 1:
+        yield from lines_of(whole, width)
     else:
-        yield from lines_of(fronts, counts, last, width)
-        yield from lines_of(fronts, [], smaller, width)
+        yield from lines_of(counts, width)
+        yield from lines_of(Grid(counts.fronts, [], [[]] * len(report.rows), groups), width)
     yield from ends_of(report, width)
 
 
@@ -71,6 +83,34 @@ def smaller_group_of(row: Row, summary: Summary) -> str:
         return "never" if row.is_never else ""
     more = [CUT] if summary.counts[summary.smaller] > MOST_NAMED else []
     return shown(f"{summary.smaller.value}: {', '.join([*summary.names, *more])}")
+
+
+class Grid(NamedTuple):
+    """The cells of a table."""
+
+    fronts: Sequence[Column]
+    """The columns in front, each with its head."""
+    heads: Sequence[str]
+    """The heads of the columns behind them."""
+    cells: Sequence[Sequence[str]]
+    """The cells of each row in these columns. Many rows may share them."""
+    last: Column
+    """The last column, with its head."""
+
+
+def cells_by(
+    report: Report, cells: Callable[[Sequence[Value]], Sequence[str]]
+) -> Sequence[Sequence[str]]:
+    """Returns the cells of each row, which a function makes of its values."""
+    made = Once(cells)
+    return [made(row.values) for row in report.rows]
+
+
+def with_column(grid: Grid, column: Column) -> Grid:
+    """Returns a table with a column more in front of the last one."""
+    head, *cells = column
+    joined = [[*row, cell] for row, cell in zip(grid.cells, cells)]
+    return grid._replace(heads=[*grid.heads, head], cells=joined)
 
 
 def fronts_of(report: Report) -> List[Column]:
@@ -91,40 +131,51 @@ def conditions_of(report: Report) -> Column:
     return ["condition", *(shown(row.dependency.condition or "") for row in report.rows)]
 
 
-def width_of(column: Column) -> int:
+def width_of(column: Iterable[str]) -> int:
     """Returns the width of a column and of the gap behind it."""
     return max(map(len, column)) + len(GAP)
 
 
-def blocks_of(
-    fronts: Sequence[Column], columns: Sequence[Column], last: Column, width: int
-) -> List[List[Column]]:
+def widths_in(grid: Grid) -> List[int]:
+    """Returns the widths of the columns between those in front and the last one."""
+    distinct = {id(row): row for row in grid.cells}.values()
+    return [width_of(column) for column in zip(grid.heads, *distinct)]
+
+
+def blocks_of(grid: Grid, width: int) -> List[slice]:
     """Returns the columns in blocks that fit into a width, with those in front and with the last
     one, which may be cut. There is at least one block."""
-    left = room = width - sum(map(width_of, fronts)) - min(LEAST, width_of(last))
-    blocks: List[List[Column]] = [[]]
-    for column in columns:
-        if blocks[-1] and width_of(column) > left:
-            blocks.append([])
+    left = room = width - sum(map(width_of, grid.fronts)) - min(LEAST, width_of(grid.last))
+    blocks = [slice(0, 0)]
+    for place, size in enumerate(widths_in(grid)):
+        if blocks[-1].start < place and size > left:
+            blocks.append(slice(place, place))
             left = room
-        blocks[-1].append(column)
-        left -= width_of(column)
+        blocks[-1] = slice(blocks[-1].start, place + 1)
+        left -= size
     return blocks
 
 
-def lines_of(
-    fronts: Sequence[Column], columns: Sequence[Column], last: Column, width: Optional[int]
-) -> Iterator[str]:
+def lines_of(grid: Grid, width: Optional[int]) -> Iterator[str]:
     """Yields the lines of columns, and an empty line. If they exceed a width, the columns come in
     blocks, and the last one is cut."""
-    blocks = [list(columns)] if width is None else blocks_of(fronts, columns, last, width)
-    for block in blocks:
-        before = [*fronts, *block]
-        widths = [width_of(column) for column in before]
-        room = None if width is None else max(width - sum(widths), LEAST - len(GAP))
-        for cells, end in zip(zip(*before), last):
-            yield "".join([*map(str.ljust, cells, widths), cut(end, room)]).rstrip()
-        yield ""
+    whole = [slice(0, len(grid.heads))]
+    for block in whole if width is None else blocks_of(grid, width):
+        yield from block_lines(grid, block, width)
+
+
+def block_lines(grid: Grid, block: slice, width: Optional[int]) -> Iterator[str]:
+    """Yields the lines of a block of columns, and an empty line."""
+    fronts, widths = [width_of(column) for column in grid.fronts], widths_in(grid)[block]
+    room = None if width is None else max(width - sum(fronts) - sum(widths), LEAST - len(GAP))
+
+    def padded(cells: Sequence[str]) -> str:
+        return "".join(map(str.ljust, cells[block], widths))
+
+    middle = Once(padded)
+    for front, cells, end in zip(zip(*grid.fronts), [grid.heads, *grid.cells], grid.last):
+        yield "".join([*map(str.ljust, front, fronts), middle(cells), cut(end, room)]).rstrip()
+    yield ""
 
 
 def cut(text: str, room: Optional[int]) -> str:
@@ -142,22 +193,43 @@ def ends_of(report: Report, width: Optional[int]) -> Iterator[str]:
 def explained(report: Report) -> Iterator[str]:
     """Yields lines that explain the unknown values: each set of flags once, and below it the
     answers that lead to each value, with the rows for which they do."""
-    reasons: Dict[Tuple[str, ...], Dict[str, List[str]]] = {}
-    named = full_name_of if has_packages(report) else name_of
-    for row in report.rows:
-        # Platforms with the same answers share a reason.
-        for reason in {id(one): one for one in row.unknown.values()}.values():
-            examples = reasons.setdefault(reason.flags, {})
-            names = examples.setdefault(examples_of(reason), [])
-            if named(row) not in names:
-                names.append(named(row))
+    reasons = reasons_in(report)
     if reasons:
         yield EXPLANATION
     for flags, examples in reasons.items():
         yield shown(f"  {', '.join(flags)}")
-        for example, names in examples.items():
-            more = f" and {len(names) - MOST_NAMED} more" if len(names) > MOST_NAMED else ""
-            yield shown(f"    {', '.join(names[:MOST_NAMED])}{more}: {example}")
+        yield from (shown(f"    {names}: {example}") for example, names in examples.items())
+
+
+def reasons_in(report: Report) -> Dict[Tuple[str, ...], Dict[str, "Names"]]:
+    """Returns the names of rows with unknown values, by their flags and by the clause with the
+    answers that lead to each value."""
+    reasons: Dict[Tuple[str, ...], Dict[str, Names]] = {}
+
+    def names_for(reason: Unknown) -> Names:
+        examples = reasons.setdefault(reason.flags, {})
+        return examples.setdefault(examples_of(reason), Names())
+
+    found, named = Once(names_for), full_name_of if has_packages(report) else name_of
+    unknown = ((row, reason) for row in report.rows for reason, _ in groups_in(row.unknown))
+    for row, reason in unknown:
+        found(reason).add(named(row))
+    return reasons
+
+
+class Names:
+    """Names of rows, of which the first ones are told."""
+
+    def __init__(self) -> None:
+        self._names: Dict[str, None] = {}
+
+    def add(self, name: str) -> None:
+        """Adds a name, unless it is there."""
+        self._names[name] = None
+
+    def __str__(self) -> str:
+        told, left = itertools.islice(self._names, MOST_NAMED), len(self._names) - MOST_NAMED
+        return ", ".join(told) + (f" and {left} more" if left > 0 else "")
 
 
 def examples_of(reason: Unknown) -> str:
@@ -165,7 +237,7 @@ def examples_of(reason: Unknown) -> str:
     both = (("yes", reason.if_yes), ("no", reason.if_no))
     clauses = [f"{value} if {spelled(given)}" for value, given in both if given is not None]
     start = "for example, " if len(reason.flags) > 1 else ""
-    return start + "; ".join(clauses) if len(clauses) == 2 else "too many flags to try all answers"
+    return start + "; ".join(clauses) if reason.is_tried else NOT_TRIED
 
 
 def spelled(given: Dict[str, bool]) -> str:
@@ -174,19 +246,25 @@ def spelled(given: Dict[str, bool]) -> str:
 
 
 def counted(report: Report) -> str:
-    """Returns a line with the host and the number of rows by their values."""
-    groups = collections.Counter(group_of(row) for row in report.rows)
+    """Returns a line with the host and the number of rows by their values, and with the number of
+    those that were not tried out, if there are some."""
+    groups = collections.Counter(map(Once(group_of), (row.values for row in report.rows)))
     order = ("yes", "no", "yes or no", "unknown", "not read")
-    counts = [f"{groups[group]} {group}" for group in order if groups[group] > 0]
-    host, count = shown(report.platforms[0].triple), len(report.rows)
-    rows = "1 row" if count == 1 else f"{count} rows"
-    return f"host {host}; {rows}: {', '.join(counts) or 'none'}"
+    counts = [f"{groups[name]} {name}" for name in order if groups[name] > 0]
+    host, left = shown(report.platforms[0].triple), sum(not row.is_tried for row in report.rows)
+    end = f"; {rows_of(left)} not tried out" if left > 0 else ""
+    return f"host {host}; {rows_of(len(report.rows))}: {', '.join(counts) or 'none'}{end}"
 
 
-def group_of(row: Row) -> str:
+def rows_of(count: int) -> str:
+    """Returns a number of rows."""
+    return "1 row" if count == 1 else f"{count} rows"
+
+
+def group_of(values: Sequence[Value]) -> str:
     """Returns the values of a row on the platforms where Cargo reads it, or `unknown` if it is
     unknown on one of them."""
-    values = set(row.values) - {Value.NOT_READ}
-    if Value.UNKNOWN in values:
+    found = set(values) - {Value.NOT_READ}
+    if Value.UNKNOWN in found:
         return "unknown"
-    return " or ".join(value.value for value in COUNTED if value in values) or "not read"
+    return " or ".join(value.value for value in COUNTED if value in found) or "not read"

@@ -5,14 +5,16 @@ binary or a test. It reads the conditions of a package once for each unit, on th
 unit. So a dependency of a package has up to two sides.
 
 - A build script is a unit for the host, and alone reads the build-dependencies.
-- A library that is a proc-macro is a unit for the host, and so are its unit tests. So is an
-  example that is a proc-macro.
+- A library that is a proc-macro is a unit for the host, and so are its tests. So is an example
+  that is a proc-macro.
 - Any other library is a unit for the target. If a unit for the host uses it, it is one for the host
   as well: a build script, a proc-macro or its unit tests, or another library on the host.
 - Binaries, tests, examples and benchmarks are units for the target, also beside a proc-macro.
 
-Each unit but a build script reads the dependencies of its package, and tests, examples and
-benchmarks the dev-dependencies too. If no target is named, each unit is one for the host.
+Each unit but a build script reads the dependencies of its package. Unit tests, documentation tests,
+tests, examples and benchmarks read the dev-dependencies too. A library or a binary with
+`test = false` has no unit tests, and with `doctest = false` no documentation tests. If no target is
+named, each unit is one for the host.
 """
 import dataclasses
 from typing import Callable, Dict, FrozenSet, Iterable, Iterator, List, Sequence, Set
@@ -46,10 +48,12 @@ class Units:
         """Returns where Cargo reads the dependencies of a kind of a package."""
         if kind == "build":
             return Sides(package.has_build_script, False)
-        if not self._has_target:
-            return Sides(True, False)
-        is_used = kind == "normal" and package.manifest_path in self._on_host
-        return Sides(package.has_macro or is_used, package.has_target_units)
+        if kind == "dev":
+            sides = Sides(package.has_macro_tests, package.has_target_tests)
+        else:
+            is_used = package.manifest_path in self._on_host
+            sides = Sides(package.has_macro or is_used, package.has_target_units)
+        return sides if self._has_target else Sides(sides.host or sides.target, False)
 
     def _libraries_on_host(self, packages: Iterable[Package]) -> FrozenSet[str]:
         """Returns the manifests of the packages whose library a unit for the host uses."""
@@ -68,7 +72,9 @@ class Units:
         if package.has_build_script:
             yield from self._used_by(package, ("build",))
         if package.has_macro:
-            yield from self._used_by(package, ("normal", "dev"))
+            yield from self._used_by(package, ("normal",))
+        if package.has_macro_tests:
+            yield from self._used_by(package, ("dev",))
 
     def _used_by(self, package: Package, kinds: Sequence[str]) -> List[Package]:
         """Returns the packages of the workspace that stand for dependencies of these kinds which

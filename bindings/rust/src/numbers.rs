@@ -1,8 +1,8 @@
 //! The numbers of `crates/cfgx_c/include/cfgx.h`, by their names without `CFGX_`. Those of reasons
 //! and of lists of terms are places in the tables of `error.rs`.
 
-/// Declares numbers, and the list of all for a test. Some are those of calls that the crate does
-/// not use.
+/// Declares numbers, and the list of all, which `tests/header.rs` compares with the header. Some
+/// are those of calls that the crate does not use.
 macro_rules! numbers {
     ($($name:ident = $number:literal),* $(,)?) => {
         $(
@@ -10,15 +10,15 @@ macro_rules! numbers {
             pub(crate) const $name: u32 = $number;
         )*
 
-        #[cfg(test)]
-        pub(super) const ALL: &[(&str, u32)] = &[$((stringify!($name), $number)),*];
+        #[allow(dead_code)]
+        pub(crate) const ALL: &[(&str, u32)] = &[$((stringify!($name), $number)),*];
     };
 }
 
 numbers! {
     VERSION_LANGUAGE = 2,
-    VERSION_MAJOR = 2,
-    VERSION_MINOR = 1,
+    VERSION_MAJOR = 3,
+    VERSION_MINOR = 0,
     STATUS_DONE = 0,
     STATUS_FAULTY = 1,
     STATUS_WRONG_USE = 2,
