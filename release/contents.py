@@ -1,20 +1,27 @@
 """What stands in each archive of a release, by paths in the archive."""
 import os
+import sys
 from typing import Dict
 
 from packing import File
-from repository import BUILT, ROOT, project, read, read_text, relinked, tracked, version
+from pages import named, reached, relinked
+from repository import BUILT, ROOT, STAMP, output_of, project, read, tracked, version
 
 Files = Dict[str, File]
 
-LICENSES = ("LICENSE-APACHE", "LICENSE-MIT", "NOTICE")
-PAGE = "docs/RELEASE.md"
+LICENSES = ("LICENSE-APACHE", "LICENSE-MIT", "LICENSES/LicenseRef-cfgx-kit.txt", "NOTICE")
 
-# The pages of each archive, and where they stand there.
-C_PAGES = {path: path for path in ("README.md", "docs/C.md", PAGE, "docs/RULES.md")}
+# The first pages of the archives for C, Rust and Python.
+README = "README.md"
 RUST_README = "bindings/rust/README.md"
-RUST_PAGES = {RUST_README: "README.md", "docs/RUST.md": "docs/RUST.md", PAGE: PAGE}
 PYTHON_README = "bindings/python/README.md"
+# Where the archive for Rust has the page whose place its own README takes.
+MOVED = "docs/CFGX.md"
+# Where pip puts the pages of a wheel, below the folder of the environment.
+DOCUMENTS = "share/doc/cfgx"
+# Where it puts the manual page of the command, and what makes this page.
+MANUAL = "share/man/man1/cfgx-deps.1"
+MANUAL_MAKER = ("-B", "manual/make", "deps")
 
 # The file for pkg-config leads from its own folder to the others.
 PC = "lib/pkgconfig/cfgx.pc"
@@ -26,24 +33,29 @@ METADATA = """Metadata-Version: 2.4
 Name: {name}
 Version: {version}
 Summary: {summary}
-License-Expression: MIT OR Apache-2.0
+License-Expression: {license}
 {licenses}Requires-Python: {python}
 Description-Content-Type: text/markdown
 
 This wheel has the library inside, and pip installs it without `setuptools`. It is for Linux on
-x86-64-v2, so for a processor with SSE4.2, and for glibc 2.17 or later.
+x86-64-v2, so for a processor with SSE4.2, and for glibc 2.17 or later. pip puts the pages into the
+folder `{documents}` of the environment, and the manual page of `cfgx-deps` into `share/man`.
 
 {description}"""
 WHEEL = "Wheel-Version: 1.0\nGenerator: release/make of cfgx\nRoot-Is-Purelib: false\n"
 
 
-def licenses() -> Files:
-    """Returns the texts of both licences, and what is to be said of others' work."""
-    return {path: File(read(path)) for path in LICENSES}
+def licenses(folder: str = "") -> Files:
+    """Returns the texts of all licences, and what is to be said of others' work, in a folder whose
+    name ends with `/`."""
+    return {folder + path: File(read(path)) for path in LICENSES}
 
 
-def pages(places: Dict[str, str]) -> Files:
-    """Returns pages, by their places in an archive, at whose top the licences stand."""
+def pages(first: str, moved: Dict[str, str]) -> Files:
+    """Returns a page and all those to which its links lead, by their places in an archive: each
+    has the path that it has in the repository, or the one in `moved`. At the top of the archive
+    stand the licences."""
+    places = {page: moved.get(page, page) for page in reached(first)}
     others = {path: path for path in LICENSES}
     return {
         place: File(relinked(page, {**others, **places}).encode())
@@ -52,7 +64,8 @@ def pages(places: Dict[str, str]) -> Files:
 
 
 def installed() -> Files:
-    """Returns what `crates/cfgx_c/install` put into its folder, which a user can move."""
+    """Returns what `crates/cfgx_c/install` put into its folder, which a user can move. The stamp is
+    left out, since MANIFEST.txt says more."""
     files = {}
     for folder, _, names in os.walk(os.path.join(ROOT, BUILT)):
         for name in names:
@@ -62,6 +75,7 @@ def installed() -> Files:
                 files[place] = File(b"", link=os.readlink(path))
             else:
                 files[place] = File(read(path), os.access(path, os.X_OK))
+    del files[STAMP]
     _, rest = files[PC].data.decode().split("\n", 1)
     files[PC] = File((RELATIVE + rest).encode())
     return files
@@ -71,44 +85,56 @@ def c_files() -> Files:
     """Returns the files of the archive for C."""
     sources = [path for path in tracked("crates/cfgx_c/examples") if path.endswith((".c", ".h"))]
     examples = {f"examples/{os.path.basename(path)}": File(read(path)) for path in sources}
-    return {**installed(), **licenses(), **pages(C_PAGES), **examples}
+    return {**installed(), **licenses(), **pages(README, {}), **examples}
 
 
 def rust_files() -> Files:
     """Returns the files of the archive for Rust: the crate `cfgx`, with the library inside, and in
-    its folder the package `cfg-expr`."""
+    its folder the package `cfg-expr`. Each of both packages has the licences."""
     top = "bindings/rust/"
-    sources = tracked(*(top + path for path in ("Cargo.toml", "build.rs", "src", "cfg-expr")))
+    parts = ("Cargo.toml", "LICENSES", "build.rs", "src", "cfg-expr")
+    sources = tracked(*(top + path for path in parts))
     sources = [path for path in sources if not path.endswith(".gitignore")]
     code = {path[len(top):]: File(read(path)) for path in sources}
     library = {"lib/libcfgx.a": File(read(f"{BUILT}/lib/libcfgx.a"))}
-    return {**code, **library, **licenses(), **pages(RUST_PAGES)}
+    told = pages(RUST_README, {RUST_README: README, README: MOVED})
+    return {**code, **library, **licenses(), **licenses("cfg-expr/"), **told}
 
 
 def information() -> Files:
     """Returns what a wheel says of the package, by paths in the folder `.dist-info`."""
-    name, = project("name")
-    summary, = project("description")
-    python, = project("requires-python")
-    script, = project("cfgx-deps")
+    fields = {
+        "name": "name", "summary": "description", "license": "license", "python": "requires-python",
+    }
+    told = {field: project(name)[0] for field, name in fields.items()}
     files = "".join(f"License-File: {path}\n" for path in LICENSES)
-    description = relinked(PYTHON_README, {PYTHON_README: ""})
-    metadata = METADATA.format(name=name, version=version(), summary=summary, licenses=files,
-                               python=python, description=description)
+    metadata = METADATA.format(**told, version=version(), licenses=files, documents=DOCUMENTS,
+                               description=named(PYTHON_README, DOCUMENTS))
+    script, = project("cfgx-deps")
     texts = {
         "METADATA": metadata,
         "WHEEL": WHEEL + "".join(f"Tag: py3-none-{platform}\n" for platform in PLATFORMS),
         "entry_points.txt": f"[console_scripts]\ncfgx-deps = {script}\n",
     }
-    told = {path: File(text.encode()) for path, text in texts.items()}
-    return {**told, **{f"licenses/{path}": file for path, file in licenses().items()}}
+    return {**{path: File(text.encode()) for path, text in texts.items()}, **licenses("licenses/")}
 
 
-def python_files(folder: str) -> Files:
-    """Returns the files of the wheel but for its record. `folder` is the one for `information`."""
+def documents() -> Files:
+    """Returns the pages and the licences of a wheel, by paths in the folder `.data`, whose part
+    `data` pip puts into the folder of the environment."""
+    manual = File(output_of(sys.executable, *MANUAL_MAKER).encode())
+    told = {f"{DOCUMENTS}/{path}": file
+            for path, file in {**licenses(), **pages(PYTHON_README, {})}.items()}
+    return {f"data/{path}": file for path, file in {**told, MANUAL: manual}.items()}
+
+
+def python_files(named_version: str) -> Files:
+    """Returns the files of the wheel but for its record. `named_version` begins the names of the
+    folders `.dist-info` and `.data`."""
     top = "bindings/python/src/"
     code = {path[len(top):]: File(read(path)) for path in tracked(top)}
     name = "libcfgx.so." + version().rsplit(".", 1)[0]
     library = {f"cfgx/{name}": File(read(f"{BUILT}/lib/{name}"), is_program=True)}
-    told = {f"{folder}/{path}": file for path, file in information().items()}
-    return {**code, **library, **told}
+    told = {f"{named_version}.dist-info/{path}": file for path, file in information().items()}
+    data = {f"{named_version}.data/{path}": file for path, file in documents().items()}
+    return {**code, **library, **told, **data}

@@ -1,8 +1,11 @@
 """The text of MANIFEST.txt: what a release is made of, and what of it is proved and trusted."""
+import platform
 import re
+import zlib
 from typing import Dict, List
 
 import repository
+import stamp
 from packing import File, sum_of
 
 # The latest version of glibc that the program and the shared object may need.
@@ -24,13 +27,6 @@ def rows(files: Dict[str, File]) -> str:
     return "".join(lines)
 
 
-def rust_field(manifest: str, name: str) -> str:
-    """Returns what a line of the manifest of a package in `bindings/rust` has in quotes."""
-    text = repository.read_text(f"bindings/rust/{manifest}")
-    found, = re.findall(rf'^{name} = "(.*)"$', text, re.M)
-    return found
-
-
 def linker() -> str:
     """Returns the versions of the C compiler and of binutils."""
     return ", ".join(
@@ -45,10 +41,12 @@ def text(version: str, commit: repository.Commit, held: Dict[str, Dict[str, File
     places = {
         "VERSION": version, "COMMIT": commit.name + changes, "DATE": commit.date(),
         "KIT": kit["version"], "KIT_COMMIT": kit["commit"], "COMPILER": kit["compiler"],
-        "LINKER": linker(), "PYTHON": repository.project("requires-python")[0].lstrip(">="),
+        "SOURCES": stamp.sources(), "LINKER": linker(),
+        "PACKED": f"Python {platform.python_version()}, zlib {zlib.ZLIB_RUNTIME_VERSION}",
+        "PYTHON": repository.project("requires-python")[0].lstrip(">="),
         "PROGRAM_GLIBC": PROGRAM_GLIBC, "GLIBC": GLIBC,
-        "CFG_EXPR": rust_field("cfg-expr/Cargo.toml", "version"),
-        "RUST": rust_field("Cargo.toml", "rust-version"),
+        "CFG_EXPR": repository.rust_field("cfg-expr/Cargo.toml", "version"),
+        "RUST": repository.rust_field("Cargo.toml", "rust-version"),
     }
     for language, name in zip(("C", "PYTHON", "RUST"), held):
         places[f"{language}_NAME"], places[f"{language}_FILES"] = name, rows(held[name])

@@ -1,6 +1,6 @@
 """What is asked of the repository, of its commit, and of the kit that built it."""
+import functools
 import os
-import posixpath
 import re
 import subprocess
 import time
@@ -8,12 +8,12 @@ from typing import Dict, List, NamedTuple
 
 ROOT = os.path.dirname(os.path.dirname(os.path.abspath(__file__)))
 BUILT = "out/cfgx"
+# What `crates/cfgx_c/install` says there of the files that it installed, and what knows of what
+# they have to be built.
+STAMP = "share/cfgx/stamp"
+STAMPER = "crates/cfgx_c/stamp"
 HEADER = "crates/cfgx_c/include/cfgx.h"
 PROJECT = "bindings/python/pyproject.toml"
-
-# A block of code on a page, and a link or a picture.
-BLOCK = re.compile(r"(^```.*?^```$)", re.M | re.S)
-LINK = re.compile(r"(!?)\[([^\]]+)\]\(([^)\s#]*)(#[^)\s]*)?\)")
 
 
 class Commit(NamedTuple):
@@ -65,6 +65,13 @@ def project(name: str) -> List[str]:
     return re.findall(r'"(.*?)"', line)
 
 
+def rust_field(manifest: str, name: str) -> str:
+    """Returns what a line of the manifest of a package in `bindings/rust` has in quotes."""
+    text = read_text(f"bindings/rust/{manifest}")
+    found, = re.findall(rf'^{name} = "(.*)"$', text, re.M)
+    return found
+
+
 def commit() -> Commit:
     """Returns the commit of the repository."""
     name, seconds = output_of("git", "log", "-1", "--format=%H %ct").split()
@@ -78,6 +85,7 @@ def tracked(*paths: str) -> List[str]:
     return [path for path in output_of("git", "ls-files", "-z", "--", *paths).split("\0") if path]
 
 
+@functools.lru_cache(maxsize=None)
 def kit() -> Dict[str, str]:
     """Returns what `rt version` prints, and what the kit says of its origin, line by line. Raises
     `ToolError`."""
@@ -88,20 +96,3 @@ def kit() -> Dict[str, str]:
     except FileNotFoundError as error:
         raise ToolError(f"the kit has no file {path}") from error
     return {**told, "version": output_of("rt", "version").strip()}
-
-
-def relinked(page: str, places: Dict[str, str]) -> str:
-    """Returns the text of a page for an archive, where each file of the repository has its place.
-    Links lead to these places. What has none is named without a link."""
-    def link(found: "re.Match[str]") -> str:
-        mark, name, target, part = found.groups(default="")
-        if "://" in target or not target:
-            return found[0]
-        path = posixpath.normpath(posixpath.join(posixpath.dirname(page), target))
-        if path not in places:
-            return name
-        here = posixpath.dirname(places[page]) or "."
-        return f"{mark}[{name}]({posixpath.relpath(places[path], here)}{part})"
-
-    parts = BLOCK.split(read_text(page))
-    return "".join(part if at % 2 else LINK.sub(link, part) for at, part in enumerate(parts))

@@ -3,16 +3,44 @@ folder `release` runs them.
 """
 import os
 import subprocess
+import tarfile
 import tempfile
 import unittest
+import zipfile
 
 import repository
 
 FOLDER = os.path.join(repository.ROOT, "out", "release")
 VERSION = repository.version()
+# The name by which the loader finds the library has the first two numbers.
+SONAME = "libcfgx.so." + VERSION.rsplit(".", 1)[0]
 C = f"cfgx-{VERSION}-x86_64-linux"
 RUST = f"cfgx-rust-{VERSION}"
 WHEEL = f"cfgx-{VERSION}-py3-none-manylinux_2_17_x86_64.manylinux2014_x86_64.whl"
+# The folders of the wheel for what it says of itself, and for what pip puts into the environment.
+INFORMATION = f"cfgx-{VERSION}.dist-info"
+DATA = f"cfgx-{VERSION}.data"
+
+# The files with the terms of use, and the licence field of a package.
+LICENSES = ("LICENSE-APACHE", "LICENSE-MIT", "LICENSES/LicenseRef-cfgx-kit.txt", "NOTICE")
+LICENSE = "(MIT OR Apache-2.0) AND LicenseRef-cfgx-kit"
+
+
+def path_of(name):
+    """Returns the path of a file of the release."""
+    return os.path.join(FOLDER, name)
+
+
+def files_of(name):
+    """Returns the bytes of the files of an archive for C or Rust, by their paths."""
+    with tarfile.open(path_of(f"{name}.tar.gz")) as archive:
+        return {one.name: archive.extractfile(one).read() for one in archive if one.isfile()}
+
+
+def files_of_wheel():
+    """Returns the bytes of the files of the wheel, by their paths."""
+    with zipfile.ZipFile(path_of(WHEEL)) as archive:
+        return {name: archive.read(name) for name in archive.namelist()}
 
 
 def is_of_a_user(folder):
@@ -41,10 +69,14 @@ class User(unittest.TestCase):
         if os.path.isdir(rustup):
             self.variables["RUSTUP_HOME"] = rustup
 
+    def runs(self, tool):
+        """Returns whether a tool runs here."""
+        return not self.run_words(*tool.split(), "--version").returncode
+
     def need(self, untested, *tools):
         """Skips a test, and says what is not tested, if a tool does not run here."""
         for tool in tools:
-            if self.run_words(*tool.split(), "--version").returncode:
+            if not self.runs(tool):
                 self.skipTest(f"{untested}, since {tool} does not run here")
 
     def run_words(self, *words, **variables):

@@ -2,20 +2,18 @@
 import base64
 import email
 import hashlib
-import os
-import posixpath
 import re
 import tarfile
 import time
 import unittest
 import zipfile
 
-from . import C, FOLDER, RUST, VERSION, WHEEL
+from . import (
+    C, DATA, INFORMATION, LICENSE, LICENSES, RUST, SONAME, VERSION, WHEEL,
+    files_of, files_of_wheel, path_of,
+)
 
 import repository
-
-INFORMATION = f"cfgx-{VERSION}.dist-info"
-LICENSES = ("LICENSE-APACHE", "LICENSE-MIT", "NOTICE")
 
 # What a wheel says of itself.
 WHEEL_FIELDS = (
@@ -26,29 +24,16 @@ WHEEL_FIELDS = (
 METADATA_FIELDS = (
     ("Name", ["cfgx"]),
     ("Version", [VERSION]),
-    ("License-Expression", ["MIT OR Apache-2.0"]),
+    ("License-Expression", [LICENSE]),
     ("License-File", list(LICENSES)),
     ("Requires-Python", [">=3.8"]),
 )
 
+# The manual page of the command.
+MANUAL = f"{DATA}/data/share/man/man1/cfgx-deps.1"
+
 # The programs and shared objects in the archives; every other file has the mode 644.
-PROGRAMS = {f"{C}/bin/cfgx", f"{C}/lib/libcfgx.so.{VERSION}", "cfgx/libcfgx.so.2.2"}
-
-
-def path_of(name):
-    """Returns the path of a file of the release."""
-    return os.path.join(FOLDER, name)
-
-
-def files_of(name):
-    """Returns the bytes of the files of an archive for C or Rust, by their paths."""
-    with tarfile.open(path_of(f"{name}.tar.gz")) as archive:
-        return {one.name: archive.extractfile(one).read() for one in archive if one.isfile()}
-
-
-def texts_of(folder, read):
-    """Returns the texts of the licences in a folder of an archive."""
-    return [read(f"{folder}/{name}") for name in LICENSES]
+PROGRAMS = {f"{C}/bin/cfgx", f"{C}/lib/libcfgx.so.{VERSION}", f"cfgx/{SONAME}"}
 
 
 class Archives(unittest.TestCase):
@@ -70,41 +55,104 @@ class Archives(unittest.TestCase):
     def test_links(self):
         with tarfile.open(path_of(f"{C}.tar.gz")) as archive:
             links = {one.name: one.linkname for one in archive if one.issym()}
-        self.assertEqual(links, {f"{C}/lib/libcfgx.so": "libcfgx.so.2.2",
-                                 f"{C}/lib/libcfgx.so.2.2": f"libcfgx.so.{VERSION}"})
+        self.assertEqual(links, {f"{C}/lib/libcfgx.so": SONAME,
+                                 f"{C}/lib/{SONAME}": f"libcfgx.so.{VERSION}"})
 
-    def test_contents(self):
-        wanted = [repository.read(path) for path in LICENSES]
-        held = [wanted]
+    def test_heads_of_gzip(self):
+        """Neither names a file or a time: flags and time are zero, and the system is unknown."""
         for name in (C, RUST):
-            files = files_of(name)
-            held.append(texts_of(name, files.get))
+            with open(path_of(f"{name}.tar.gz"), "rb") as file:
+                self.assertEqual(file.read(10).hex(), "1f8b080000000000" "02ff", name)
+
+    def test_no_path_of_this_machine(self):
+        for files in (files_of(C), files_of(RUST), files_of_wheel()):
             for path, data in files.items():
                 self.assertNotIn(repository.ROOT.encode(), data, path)
-        with zipfile.ZipFile(path_of(WHEEL)) as archive:
-            held.append(texts_of(f"{INFORMATION}/licenses", archive.read))
-            for path in archive.namelist():
-                self.assertNotIn(repository.ROOT.encode(), archive.read(path), path)
-        self.assertEqual(held, [wanted] * 4)
+
+    def test_each_has_its_own_files(self):
+        """What is installed, as its stamp has it, and examples; the crate, and the library. Pages
+        and licences have tests of their own."""
+        stamp = repository.read_text("out/cfgx/share/cfgx/stamp")
+        c = re.findall("^[0-9a-f]{64}  (.*)$", stamp, re.M)
+        self.assertLessEqual({"bin/cfgx", "include/cfgx.h", "lib/libcfgx.a"}, {*c})
+        top = "crates/cfgx_c/"
+        c += [path[len(top):] for path in repository.tracked(top + "examples")
+              if path.endswith((".c", ".h"))]
+        top = "bindings/rust/"
+        code = [path[len(top):] for path in repository.tracked(
+            *(top + path for path in ("src", "cfg-expr", "Cargo.toml", "build.rs"))
+        )]
+        rust = [path for path in code if ".gitignore" not in path] + ["lib/libcfgx.a"]
+        for name, wanted in ((C, c), (RUST, rust)):
+            found = {path[len(name) + 1:] for path in files_of(name)}
+            others = {path for path in found
+                      if path.endswith(".md") or path in LICENSES or path.startswith("cfg-expr/LIC")
+                      or path == "cfg-expr/NOTICE"}
+            self.assertEqual(sorted(found - others), sorted({*wanted} - others))
+
+    def test_the_code_is_that_of_the_commit(self):
+        files, top = files_of(RUST), "bindings/rust/"
+        for path in repository.tracked(top + "src", top + "cfg-expr/src", top + "build.rs"):
+            self.assertEqual(files[f"{RUST}/{path[len(top):]}"], repository.read(path), path)
+        files, top = files_of(C), "crates/cfgx_c/"
+        for path in (*repository.tracked(top + "include"), top + "examples/cfgx.c"):
+            self.assertEqual(files[f"{C}/{path[len(top):]}"], repository.read(path), path)
+
+    def test_the_file_for_pkg_config_can_be_moved(self):
+        lines = files_of(C)[f"{C}/lib/pkgconfig/cfgx.pc"].decode().splitlines()
+        self.assertEqual(lines[0], "prefix=${pcfiledir}/../..")
+        self.assertEqual([line for line in lines[1:] if "/" in line.replace("${prefix}/", "")
+                          and not line.startswith(("Description", "URL"))], [])
 
     def test_one_library(self):
         with zipfile.ZipFile(path_of(WHEEL)) as archive:
-            inside = archive.read("cfgx/libcfgx.so.2.2")
+            inside = archive.read(f"cfgx/{SONAME}")
         self.assertEqual(inside, repository.read(f"out/cfgx/lib/libcfgx.so.{VERSION}"))
         for name in (C, RUST):
             found = files_of(name)[f"{name}/lib/libcfgx.a"]
             self.assertEqual(found, repository.read("out/cfgx/lib/libcfgx.a"))
 
-    def test_pages(self):
-        """Each page has a link, and each of them leads to a file of the archive."""
-        for name in (C, RUST):
-            files = files_of(name)
-            for path in (path for path in files if path.endswith(".md")):
-                targets = re.findall(r"\]\(([^):#]+)(?:#[^)]*)?\)", files[path].decode())
-                self.assertTrue(targets, path)
-                for target in targets:
-                    place = posixpath.join(posixpath.dirname(path), target)
-                    self.assertIn(posixpath.normpath(place), files, path)
+
+class Licenses(unittest.TestCase):
+    """Each package has both licences, NOTICE, and the text that stands in its licence field for
+    what the compilers of the kit added."""
+
+    def test_texts(self):
+        wheel = files_of_wheel()
+        places = (
+            ("", files_of(C), f"{C}/"), ("", files_of(RUST), f"{RUST}/"),
+            ("cfg-expr", files_of(RUST), f"{RUST}/cfg-expr/"),
+            ("", wheel, f"{INFORMATION}/licenses/"), ("", wheel, f"{DATA}/data/share/doc/cfgx/"),
+        )
+        for package, files, folder in places:
+            for path in LICENSES:
+                with self.subTest(package=package, folder=folder, path=path):
+                    self.assertEqual(files[folder + path], repository.read(path))
+
+    def test_copies(self):
+        """What builds a package in a folder of the repository finds the texts in this folder."""
+        for path in LICENSES:
+            self.assertEqual(repository.read(f"bindings/python/{path}"), repository.read(path))
+
+    def test_the_texts_are_those_of_their_names(self):
+        heads = {"LICENSE-APACHE": "Apache License", "LICENSE-MIT": "MIT License"}
+        for path, head in heads.items():
+            self.assertIn(head.lower(), repository.read_text(path).lower()[:200])
+
+    def test_fields(self):
+        project = repository.read_text("bindings/python/pyproject.toml")
+        self.assertIn(f'\nlicense = {{text = "{LICENSE}"}}\n', project)
+        files, = re.findall(r"^license-files = \[(.*)\]$", project, re.M)
+        self.assertEqual(re.findall(r'"(.*?)"', files), list(LICENSES))
+        crate = files_of(RUST)[f"{RUST}/Cargo.toml"].decode()
+        self.assertIn(f'\nlicense = "{LICENSE}"\n', crate)
+
+    def test_the_kit_in_both_texts(self):
+        """The text for the licence field says of what is compiled what NOTICE says of it."""
+        notice = repository.read_text("NOTICE")
+        said = notice[notice.index("\n- of the crates smallvec"):]
+        self.assertEqual(len(said.split("\n\n")), 2)
+        self.assertIn(said, repository.read_text("LICENSES/LicenseRef-cfgx-kit.txt"))
 
 
 class Wheel(unittest.TestCase):
@@ -128,7 +176,9 @@ class Wheel(unittest.TestCase):
         seconds = time.gmtime(repository.commit().seconds)
         for one in self.archive.infolist():
             mode = 0o755 if one.filename in PROGRAMS else 0o644
-            self.assertEqual(one.external_attr >> 16, 0o100000 | mode, one.filename)
+            # The modes count where the system is Unix.
+            self.assertEqual((one.create_system, one.external_attr >> 16), (3, 0o100000 | mode),
+                             one.filename)
             # A zip file counts in pairs of seconds.
             self.assertEqual(one.date_time, (*seconds[:5], seconds[5] // 2 * 2))
 
@@ -141,31 +191,37 @@ class Wheel(unittest.TestCase):
             data = self.archive.read(name)
             kind, digest = told.split("=")
             self.assertEqual((kind, len(data)), ("sha256", int(size)))
+            self.assertNotIn("=", digest)
             padded = base64.urlsafe_b64decode(digest + "=")
             self.assertEqual(padded.hex(), hashlib.sha256(data).hexdigest(), name)
+
+    def test_entry_points(self):
+        """The command is the one that a wheel from the folder of the package would have."""
+        script, = re.findall(r'^cfgx-deps = "(.*)"$',
+                             repository.read_text("bindings/python/pyproject.toml"), re.M)
+        self.assertEqual(self.archive.read(f"{INFORMATION}/entry_points.txt").decode(),
+                         f"[console_scripts]\ncfgx-deps = {script}\n")
+
+    def test_the_manual_page_is_that_of_the_command(self):
+        page = re.sub(r"\\(?:f[BIP]|%)?", "", self.archive.read(MANUAL).decode())
+        self.assertIn(f'.TH "CFGX-DEPS" 1 "" "cfgx {VERSION}" "User Commands"\n', page)
+        tags = re.findall(r"^\.TP\n(.*)$", page, re.M)
+        words = {word for tag in tags for word in re.split("[, ]+", tag)}
+        self.assertLessEqual({"MANIFEST", "--target", "TRIPLE", "--fail-on", "--help"}, words)
+
+    def test_it_has_these_files(self):
+        """But for pages and licences, which have tests of their own."""
+        top = "bindings/python/src/"
+        code = [path[len(top):] for path in repository.tracked(top)]
+        told = [f"{INFORMATION}/{name}"
+                for name in ("METADATA", "RECORD", "WHEEL", "entry_points.txt")] + [MANUAL]
+        others = (f"{INFORMATION}/licenses/", f"{DATA}/data/share/doc/cfgx/")
+        names = self.archive.namelist()
+        self.assertEqual(len(names), len({*names}))
+        self.assertEqual(sorted(name for name in names if not name.startswith(others)),
+                         sorted([*code, *told, f"cfgx/{SONAME}"]))
 
     def test_the_code_is_that_of_the_commit(self):
         top = "bindings/python/src/"
         for path in repository.tracked(top):
             self.assertEqual(self.archive.read(path[len(top):]), repository.read(path), path)
-
-
-class Manifest(unittest.TestCase):
-    """MANIFEST.txt."""
-
-    def test_it_names_each_file(self):
-        text = repository.read_text("out/release/MANIFEST.txt")
-        with zipfile.ZipFile(path_of(WHEEL)) as archive:
-            names = archive.namelist()
-        for name in (C, RUST):
-            with tarfile.open(path_of(f"{name}.tar.gz")) as archive:
-                names += archive.getnames()
-        rows = [line[66:].split(" ")[0] for line in text.splitlines() if line[64:66] == "  "]
-        self.assertEqual(sorted(rows), sorted(names))
-
-    def test_it_names_the_commit_and_the_kit(self):
-        text = repository.read_text("out/release/MANIFEST.txt")
-        kit = repository.kit()
-        for told in (repository.commit().name, kit["version"], kit["commit"], kit["compiler"]):
-            self.assertIn(told, text)
-        self.assertNotIn("@", text)

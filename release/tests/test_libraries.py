@@ -2,7 +2,7 @@
 import os
 import re
 
-from . import C, VERSION, User
+from . import C, SONAME, VERSION, User
 
 import repository
 from manifest import GLIBC, PROGRAM_GLIBC
@@ -16,9 +16,11 @@ EXAMPLES = (
     ("decide", ["all(unix, feature = \"x\")", "unix", "?feature = \"x\""],
      "unknown\ntrue with 11\nfalse with 10\n"),
     ("apply", ["all(any(unix, windows), not(a), feature = \"x\")"],
-     "unknown\ntrue with 2 true predicates\n"),
+     "all(any(unix, windows), not(a), feature = \"x\")\nunknown\ntrue with 2 true predicates\n"),
     ("table", ["conditions", "linux", "wasm"], "yes\tno\tunix\nunknown\tyes\tfeature = \"x\"\n"),
     ("readme", [], ""),
+    ("values", ["cfg(not(unix))", "any(windows, test)", "cfg(foo ()"],
+     "false\nunknown\nstatus 1, byte 8\n"),
     ("cfgx", ["parse", "all(a, any(b), c)"], "b\na\nc\n"),
 )
 FILES = (
@@ -75,9 +77,7 @@ class Libraries(User):
             self.assertNotIn("RUNPATH", text)
             stack, = re.findall(r"^ *GNU_STACK .*? (RWE?) ", text, re.M)
             self.assertEqual(stack, "RW")
-        self.assertIn(f"[libcfgx.so.{VERSION.rsplit('.', 1)[0]}]", self.succeed(
-            "readelf", "-dW", self.shared
-        ))
+        self.assertIn(f"[{SONAME}]", self.succeed("readelf", "-dW", self.shared))
 
     def test_examples(self):
         self.need("the examples in C of a release", "cc", "pkg-config")

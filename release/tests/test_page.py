@@ -51,15 +51,18 @@ class Page(User):
         self.check("From C")
 
     def test_python(self):
+        """The command comes with the package, so both are tested in one environment."""
         self.need("the wheel of a release", "python3 -m ensurepip")
-        self.check("From Python")
-
-    def test_manifest(self):
-        self.need("cfgx-deps of a release", "python3 -m ensurepip", "cargo")
-        self.check("From Python", "For a Cargo.toml")
+        if self.runs("cargo"):
+            self.check("From Python", "For a Cargo.toml")
+        else:
+            self.check("From Python")
+            self.need("cfgx-deps of a release", "cargo")
 
     def test_rust(self):
         self.need("the crate of a release", "cargo", "rustc", "cc")
+        # Both programs of the page share what is built of the crate.
+        self.variables["CARGO_TARGET_DIR"] = os.path.join(self.folder, "target")
         self.check("From Rust")
 
     def test_sums(self):
