@@ -5,8 +5,9 @@
  *
  * CONDITIONS has a condition on each line. FACTS has a fact on each line, and an empty line behind
  * those of each target. `compile-flag` compiles one flag; `value`, `decide`, `compile`,
- * `predicates`, `apply` and `tokens` take one short condition. `run` evaluates each condition of
- * the file with the facts of the first target as flags, and `audit` evaluates all conditions on all
+ * `predicates`, `apply` and `tokens` take one short condition. `apply-real` evaluates the steps of
+ * each condition of the file over what the facts of the first target answer. `run` evaluates each
+ * condition of the file with these facts as flags, and `audit` evaluates all conditions on all
  * targets. */
 #include <cfgx.h>
 #include <stdio.h>
@@ -118,6 +119,35 @@ static void apply(size_t times) {
         require(cfgx_apply(steps, count, ANSWERS, 2, &found) == CFGX_STATUS_DONE, "apply");
 }
 
+/* Evaluates the steps of a text over what the facts of the first target answer. */
+static void apply_one(size_t times, const char *text, size_t length, struct list facts) {
+    size_t flags = facts.group_ends[0];
+    size_t count;
+    size_t asked;
+    uint8_t found;
+    require(cfgx_compile(text, length, NULL, 0, &count, NULL, 0, &asked, NULL)
+                == CFGX_STATUS_DONE, "compile");
+    struct cfgx_step *steps = memory(NULL, count * sizeof *steps);
+    struct cfgx_predicate *predicates = memory(NULL, (asked + 1) * sizeof *predicates);
+    uint8_t *answers = memory(NULL, asked + 1);
+    require(cfgx_compile(text, length, steps, count, &count, predicates, asked, &asked, NULL)
+                == CFGX_STATUS_DONE, "compile");
+    require(cfgx_answers(text, length, facts.bytes, facts.ends[flags - 1], facts.ends, flags, 0,
+                         answers, asked, &asked, NULL) == CFGX_STATUS_DONE, "answers");
+    while (times-- > 0)
+        require(cfgx_apply(steps, count, answers, asked, &found) == CFGX_STATUS_DONE, "apply");
+    free(steps);
+    free(predicates);
+    free(answers);
+}
+
+static void apply_real(size_t times, struct list conditions, struct list facts) {
+    for (size_t i = 0; i < conditions.count; i++) {
+        size_t begin = i == 0 ? 0 : conditions.ends[i - 1];
+        apply_one(times, conditions.bytes + begin, conditions.ends[i] - begin, facts);
+    }
+}
+
 static void tokens(size_t times) {
     struct cfgx_token found[8];
     size_t count;
@@ -184,6 +214,8 @@ int main(int count, char **words) {
         predicates(times);
     else if (strcmp(words[1], "apply") == 0)
         apply(times);
+    else if (strcmp(words[1], "apply-real") == 0)
+        apply_real(times, conditions, facts);
     else if (strcmp(words[1], "tokens") == 0)
         tokens(times);
     else if (strcmp(words[1], "run") == 0)

@@ -1,14 +1,15 @@
 //! What `bench/measure` counts and times, over the Rust crate.
 //!
-//! usage: `bench each`, `bench pick` or `bench time`, with lines on standard input; or
-//! `bench memory value` or `bench memory members`
+//! usage: `bench each`, `bench sweep`, `bench pick` or `bench time`, with lines on standard input;
+//! or `bench memory value` or `bench memory members`
 //!
-//! `each` makes each call with the condition on each line. `pick` does what
+//! `each` makes each call with the condition on each line. `sweep` evaluates each of them on each
+//! built-in target, and prints how many values this gives. `pick` does what
 //! `cfgx pick aarch64-apple-ios` does, with sections that the target decides. `time` prints how
-//! many nanoseconds each call takes for a line, at best. `memory` parses a long text, and prints how
-//! many megabytes of memory and of addresses the process took at most.
+//! many nanoseconds each call takes for a line, at best. `memory` parses a long text, and prints
+//! how many megabytes of memory and of addresses the process took at most.
 
-use cfgx::targets::{TargetInfo, get_builtin_target_by_triple};
+use cfgx::targets::{ALL_BUILTINS, TargetInfo, get_builtin_target_by_triple};
 use cfgx::{Expression, ParseError, Predicate};
 use std::error::Error;
 use std::hint::black_box;
@@ -43,11 +44,25 @@ fn weigh_one(expression: &Expression, target: &TargetInfo) -> Option<bool> {
     })
 }
 
-/// Lists the predicates of a condition. Returns how many are on the target.
+/// Lists the predicates of a condition. Each of them is used as a whole, so all of it is made.
+/// Returns how many are on the target.
 #[inline(never)]
 fn list_one(expression: &Expression) -> usize {
     let is_on_target = |predicate: &Predicate<'_>| matches!(predicate, Predicate::Target(_));
-    expression.predicates().filter(is_on_target).count()
+    let predicates = expression.predicates().map(black_box);
+    predicates.filter(is_on_target).count()
+}
+
+/// Evaluates each condition on each target, one after another. What is not on the target is
+/// unknown.
+#[inline(never)]
+fn sweep_all(expressions: &[Expression], targets: &[TargetInfo]) -> Vec<Option<bool>> {
+    let values_of = |expression| {
+        targets
+            .iter()
+            .map(move |target| weigh_one(expression, target))
+    };
+    expressions.iter().flat_map(values_of).collect()
 }
 
 /// Clones a condition.
@@ -73,6 +88,15 @@ fn measure_each(lines: &str, target: &TargetInfo) {
             drop_one(expression);
         }
     }
+}
+
+/// Evaluates the condition on each line on each built-in target, and prints how many values this
+/// gives.
+fn sweep(lines: &str) -> Result<(), Box<dyn Error>> {
+    let expressions = lines.lines().map(Expression::parse);
+    let expressions: Vec<Expression> = expressions.collect::<Result<_, _>>()?;
+    println!("{}", black_box(sweep_all(&expressions, ALL_BUILTINS)).len());
+    Ok(())
 }
 
 /// Returns how many nanoseconds a call takes.
@@ -163,11 +187,12 @@ fn main() -> Result<(), Box<dyn Error>> {
     let words: Vec<String> = env::args().skip(1).collect();
     match words.iter().map(String::as_str).collect::<Vec<_>>()[..] {
         ["each"] => measure_each(&input()?, target),
+        ["sweep"] => sweep(&input()?)?,
         ["pick"] => pick(&input()?, target)?,
         ["time"] => print_times(&input()?, target),
         ["memory", "value"] => print_memory("feature = \"", "a", 16 << 20, "\"")?,
         ["memory", "members"] => print_memory("any(", "a,", 8_000_000, ")")?,
-        _ => return Err("usage: bench each|pick|time, or bench memory value|members".into()),
+        _ => return Err("usage: bench each|sweep|pick|time, or bench memory value|members".into()),
     }
     Ok(())
 }
