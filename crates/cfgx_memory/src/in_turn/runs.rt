@@ -125,11 +125,13 @@ pick | 0 | m\tany(not(feature = "x"), target_os = "linux", test)\
 pick | 0 | \u{e9}\ttrue\r\n\r\n | \u{e9}\tyes\n
 pick | 0 | \e | \e
 // In a row `pick alike` each field begins on a line of its own.
-// The first line leaves the inline room of the reader. After it, a line of at most its length takes
-// no memory if the output has room. The first name has 20 bytes, so the block of the output has 20
-// and then 40. The output of all lines has 34 bytes.
+// The first line leaves the inline room of the reader. Each line is answered in one of two vectors,
+// in turn. After two lines, a line of at most their length takes no memory if the output has room.
+// The first name has 20 bytes, so the block of the output has 20 and then 40. The output of all
+// lines has 34 bytes.
 pick alike | 0 | ~n~20~\tall(a, b, c, d, e, not(any(not(f))), windows)\n\
- | ~n~20~\tno\n\
+b\tall(a, b, c, d, e, not(any(not(f))), windows)\n\
+ | ~n~20~\tno\nb\tno\n\
  | ~n~20~\tall(a, b, c, d, e, not(any(not(f))), windows)\n\
 b\tall(a, b, c, d, e, not(any(not(f))), windows)\nc\twindows\n\
  | ~n~20~\tno\nb\tno\nc\tno\n
