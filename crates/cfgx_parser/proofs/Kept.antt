@@ -1,20 +1,21 @@
 -- The nodes and places that are kept of an accepted text are those of its one tree.
-use Rattle.std.proofs.Common.{◌≡◌, ℕ, List, [], ◌∷◌, ◌++◌, length, map, Ok, sym, ap, ◌∙◌, arith}
+use Rattle.std.proofs.Common.{◌≡◌, ℕ, List, [], ◌∷◌, ◌++◌, length, Ok, sym, ap, ◌∙◌, arith}
 use Rattle.std.{proofs.lemmas.List.length-map, proofs.lemmas.List.append-nil}
 use Rattle.std.{specs.Prelude.slice_range, specs.Prelude.◌≤◌, specs.List.AllByRecursion}
 use Rattle.cfgx_syntax.{specs.Cut.CanBeCut, proofs.Values.value_inside, specs.Token.{Token, Spells}}
-use Rattle.cfgx_syntax.specs.Items.{Ending, Item, ItemsFrom, HasOneTokenList}
+use Rattle.cfgx_syntax.specs.Items.{AreItems, Ending, Item, ItemsFrom, HasOneTokenList}
+use Rattle.cfgx_parser.specs.ReadFrom.{AreRead, AreReadFrom}
 use Rattle.cfgx_grammar.{specs.Question.Question, specs.Tree.Tree, proofs.Answering.only_tree}
-use Rattle.cfgx_grammar.{specs.Grammar.HasTree, proofs.ListLemmas.all_of_first}
+use Rattle.cfgx_grammar.{proofs.ListLemmas.all_of_first}
 use Rattle.cfgx_grammar.proofs.Answering.{answer, tree_of, Finds-one, HasOneTree-tree}
-use Rattle.cfgx_parser.specs.nodes.{KeepsTree.{KeepsTree, KeepsOneTree}, Prefix.{prefix, places}}
+use Rattle.cfgx_parser.specs.nodes.KeepsTree.{KeepsTree, KeepsOneTree}
+use Rattle.cfgx_parser.specs.nodes.Prefix.{places, predicates_in, prefix}
 use Rattle.cfgx_parser.specs.nodes.Node.{Written, nothing, with_list_ended}
-use Rattle.cfgx_parser.specs.nodes.ReadFrom.{AreRead, inner_node}
 use Rattle.cfgx_parser.specs.nodes.WritesNodes.{IsPlaced, ArePlaced, WritesNodes}
 use Rattle.cfgx_parser.{specs.parsing.NodeState.ParserState, specs.declared.nodes.ExprNode.ExprNode}
 use Rattle.cfgx_parser.proofs.NodeSizes.{nodes-bytes}
 use Rattle.cfgx_parser.proofs.spelled.Laws.{own, inner, node_laws, laws_written}
-use Rattle.cfgx_parser.proofs.spelled.ReadLaws.{AreReadFrom-before, read_laws, laws_read}
+use Rattle.cfgx_parser.proofs.spelled.WritingLemmas.{read_before}
 
 -- the text of a key or of a value stands at its place
 placed_at : (text : List ℕ) (token : Token) (start end : ℕ)
@@ -28,10 +29,21 @@ asked_root : (tree : Tree Question) → inner 0 tree ++ own 0 tree ≡ places 0 
 asked_root tree = grind (arith, append-nil)
 
 -- the predicate at the root is the last that is asked
-KeepsTree-writes : (text : List ℕ) (w v : Written) (tree : Tree Question) → with_list_ended 0 w ≡ v
-    → WritesNodes text nothing w (prefix tree) (own 0 tree) (inner 0 tree)
+KeepsTree-writes : (text : List ℕ) (items : List Item) (w v : Written) (tree : Tree Question)
+    → with_list_ended 0 w ≡ v
+    → WritesNodes text items nothing w (prefix tree) (own 0 tree) (inner 0 tree)
     → KeepsTree text v.nodes v.places tree
-KeepsTree-writes text w v tree is a = grind (arith, asked_root)
+KeepsTree-writes text items w v tree is a = grind (arith, asked_root)
+
+-- the predicates of nodes were read from the tokens if they were read from the first of them
+AreRead-front : (text : List ℕ) (items first rest : List Item) (nodes added : List ExprNode)
+    → AreItems text items Ending.blank → items ≡ first ++ rest → nodes ≡ added
+    → AreReadFrom first (predicates_in added) → AreRead text (predicates_in nodes)
+AreRead-front text items first rest nodes added are split same read = record {
+  items = items;
+  are_items = are;
+  read = rw (split, same) (read_before first rest (predicates_in added) read);
+}
 
 module _ (text : List ℕ) (one : HasOneTokenList text) where
   -- keys and values stand at their places
@@ -46,25 +58,6 @@ module _ (text : List ℕ) (one : HasOneTokenList text) where
         places items item.end are.1 cuts.1,
       )
 
-  -- the predicates among the nodes are read from the tokens
-  read_accepted : (tree : Tree Question) → HasTree text tree → (u : ParserState)
-      → answer text one ≡ Ok u → AreRead text (map inner_node u.written.nodes)
-  read_accepted tree has u e =
-      let f = Finds-one text one read_laws tree has in
-      let same : Ok f.whole ≡ Ok u = sym f.answers ∙ e in
-      let written : with_list_ended 0 f.written ≡ u.written = sym f.whole_is ∙ cc in
-      let writes = laws_read f.first nothing f.written tree f.builds in
-      let nodes : u.written.nodes ≡ writes.added = sym (ap (λ v. v.nodes) written)
-      ∙ writes.nodes_are in
-      let items : has.items ≡ f.first ++ f.rest = (one.only has.items Ending.blank has.are_items).0
-      ∙ f.items_are in
-      record {
-        items = has.items;
-        are_items = has.are_items;
-        read = rw (items, nodes) (AreReadFrom-before f.first f.rest (map inner_node writes.added)
-            writes.read);
-      }
-
   pub KeepsOneTree-accepted : (u : ParserState) → answer text one ≡ Ok u
       → KeepsOneTree text u.written.nodes u.written.places
   KeepsOneTree-accepted u e =
@@ -75,11 +68,16 @@ module _ (text : List ℕ) (one : HasOneTokenList text) where
       let written : with_list_ended 0 f.written ≡ u.written = sym f.whole_is ∙ cc in
       let writes = laws_written text f.first nothing f.written tree f.builds
       (all_of_first _ f.first f.rest (rw f.items_are at placed)) in
-      let keeps = KeepsTree-writes text f.written u.written tree written writes in
+      let keeps = KeepsTree-writes text f.first f.written u.written tree written writes in
+      let nodes : u.written.nodes ≡ writes.added =
+      sym (ap (λ (v : Written). v.nodes) written) ∙ writes.nodes_are in
+      let items : has.items ≡ f.first ++ f.rest =
+      (one.only has.items Ending.blank has.are_items).0 ∙ f.items_are in
       record {
         one = whole;
         keeps = rw (← only_tree whole tree has) keeps;
-        read = read_accepted tree has u e;
+        read = AreRead-front text has.items f.first f.rest u.written.nodes writes.added
+            has.are_items items nodes writes.read;
       }
 
 pub few-nodes : {text : List ℕ} {nodes : List ExprNode} {asks : List ℕ}

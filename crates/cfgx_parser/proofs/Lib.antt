@@ -1,8 +1,7 @@
+pub mod AskedNumbers
 pub mod FaultyKeys
 pub mod FewTokens
 pub mod Innermost
-pub mod KindLemmas
-pub mod KindNumbers
 pub mod Kept
 pub mod NeededRoom
 pub mod NodeSizes

@@ -1,7 +1,7 @@
 -- The room that a parser needs is at most the number of bytes that it has read.
-use Rattle.std.proofs.Common.{◌≡◌, ℕ, ◌+◌, ◌*◌, ◌≤◌, List, [], ◌∷◌, length, Option, None, Some}
+use Rattle.std.proofs.Common.{◌≡◌, ℕ, ◌+◌, ◌≤◌, List, [], ◌∷◌, length, Option, None, Some}
 use Rattle.std.proofs.Common.{Result, Ok, Err, option_map, arith, refl, if◌then◌else◌, slice_range}
-use Rattle.std.proofs.Common.{set, length-append, ◌-◌, drop, Bool, true, false, ◌<◌}
+use Rattle.std.proofs.Common.{length-append, ◌-◌, drop, Bool, true, false, ◌<◌}
 use Rattle.std.proofs.Common.{reverse, ◌∙◌, OnErr}
 use Rattle.std.proofs.lemmas.List.{length-set, length-take, length-reverse}
 use Rattle.cfgx_syntax.specs.{Error.Fault, Token.Token, Token.Spells, Token.IsKey}
@@ -9,7 +9,7 @@ use Rattle.cfgx_syntax.specs.Items.{Item, Stands}
 use Rattle.cfgx_grammar.specs.parsing.State.{Pending}
 use Rattle.cfgx_grammar.specs.parsing.Step.{allows_count, member_count, concluded_by, one_root}
 use Rattle.cfgx_grammar.specs.FollowSet.{next}
-use Rattle.cfgx_grammar.specs.parsing.Step.{apply, step, over_top, one_more, ended_by, leaf_ended}
+use Rattle.cfgx_grammar.specs.parsing.Step.{apply, step, over_top, ended_by, leaf_ended}
 use Rattle.cfgx_grammar.specs.parsing.Step.{predicate_ended, function_ended, closed_by, result_map}
 use Rattle.cfgx_parser.specs.declared.nodes.ExprNode.{ExprNode}
 use Rattle.cfgx_parser.specs.parsing.NodeState.{OpenFunction, ParserState}

@@ -3,8 +3,8 @@ use Rattle.std.proofs.Common.{◌≡◌, ◌≤◌, ◌<◌, ℕ, List, Some, No
 use Rattle.std.proofs.lemmas.Bool.{eq-eqb, ne_eqb}
 use Rattle.cfgx_syntax.specs.Items.{Item}
 use Rattle.cfgx_grammar.specs.Question.{Question}
-use Rattle.cfgx_parser.specs.nodes.Located.{IsSpan, predicate_located, whole_span}
-use Rattle.cfgx_parser.specs.nodes.ReadFrom.{quoted_span, word_span}
+use Rattle.cfgx_parser.specs.Located.{IsSpan, predicate_located, whole_span}
+use Rattle.cfgx_parser.specs.ReadFrom.{quoted_span, word_span}
 
 pub whole_span-key : (x : Item) (question : Question)
     → whole_span (predicate_located (word_span x) None question) ≡ word_span x

@@ -1,5 +1,4 @@
 -- For a text that a tree spells, the nodes of this tree are written.
 pub mod Laws
 pub mod LocatedClasses
-pub mod ReadLaws
 pub mod WritingLemmas

@@ -1,5 +1,7 @@
-pub mod Kinds
+pub mod Asked
+pub mod Located
 pub mod Order
+pub mod ReadFrom
 pub mod Unaskable
 pub mod nodes
 pub mod parsing

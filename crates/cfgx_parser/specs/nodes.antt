@@ -1,10 +1,7 @@
--- A tree as the list of its nodes, and how it is written. Internal, but for four words of `Located`
--- that public contracts of `cfg_expr` cite: `at`, `IsSpan`, `inner_target`, `target_text`.
+-- A tree as the list of its nodes, and how it is written. Internal.
 pub mod KeepsTree
-pub mod Located
 pub mod Node
 pub mod Prefix
-pub mod ReadFrom
 pub mod Shape
 pub mod NodeWriter
 pub mod WritesNodes

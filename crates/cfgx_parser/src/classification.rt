@@ -8,7 +8,9 @@ ghost use Rattle.cfgx_parser.specs.parsing.Fields.{located_text, pending_of, cla
 ghost use Rattle.cfgx_parser.specs.parsing.Fields.{plain_fault};
 ghost use Rattle.cfgx_parser.specs.parsing.Fields.{located_bare, located_target, located_other};
 
-use crate::nodes::{ExprNode, InnerPredicate, InnerTarget, Located, Span};
+use crate::asked::{Asked, AskedTarget};
+use crate::located::{LocatedPredicate, Span};
+use crate::nodes::ExprNode;
 use cfgx_fields::reading::{read_endian, read_has_atomic, read_u8};
 use cfgx_fields::text_key::TextKey;
 use cfgx_syntax::error::{Reason, terms};
@@ -59,14 +61,14 @@ fn bare(leaf: ExprNode, value: Option<LocatedText<'_>>) -> Result<ExprNode, Faul
 }
 
 /// Returns the node of a predicate. Without a value, `value` is the key.
-fn predicate(asked: InnerPredicate, key: LocatedText<'_>, value: LocatedText<'_>) -> ExprNode
+fn predicate(asked: Asked, key: LocatedText<'_>, value: LocatedText<'_>) -> ExprNode
     ensures { result ≡ node.Predicate (record {
       asked = asked;
       key = key.entry.span;
       value = value.entry.span;
     }) }
 {
-    ExprNode::Predicate(Located {
+    ExprNode::Predicate(LocatedPredicate {
         asked,
         key: key.span,
         value: value.span,
@@ -84,8 +86,8 @@ fn classify_target(
     ensures { class_result result ≡ located_target name.now (located_text key.entry)
         (located_text value.entry) }
 {
-    use InnerPredicate::{Target, TargetFeature};
-    use InnerTarget::*;
+    use Asked::{Target, TargetFeature};
+    use AskedTarget::*;
     let text = value.text;
     match name {
         "abi" => Ok(predicate(Target(Text(TextKey::Abi)), key, value)),
@@ -121,8 +123,8 @@ fn classify_other(key: LocatedText<'_>, value: Option<LocatedText<'_>>) -> Resul
     match (key.text.strip_prefix("target_"), value) {
         (Some(name), Some(value)) => classify_target(name, key, value),
         (Some(_), None) => Err(key.fault(Reason::Unexpected(terms::TARGET_VALUE))),
-        (None, Some(value)) => Ok(predicate(InnerPredicate::KeyValue, key, value)),
-        (None, None) => Ok(predicate(InnerPredicate::Flag, key, key)),
+        (None, Some(value)) => Ok(predicate(Asked::KeyValue, key, value)),
+        (None, None) => Ok(predicate(Asked::Flag, key, key)),
     }
 }
 
@@ -132,8 +134,8 @@ pub(crate) fn classify(pending: &Pending<'_>) -> Result<ExprNode, Fault>
     ensures { class_result result ≡ classified (pending_of pending.now) }
 {
     use ExprNode::Literal;
-    use InnerPredicate::*;
-    use InnerTarget::Text;
+    use Asked::*;
+    use AskedTarget::Text;
     let Pending { key, value } = *pending;
     match key.text {
         "true" => bare(Literal(true), value),

@@ -14,7 +14,9 @@ ghost use Rattle.cfgx_parser.specs.parsing.Fields.{counted_around};
 
 use crate::classification::{Fault, LocatedText, Pending, classify};
 use crate::function::{Func, FuncKind};
-use crate::nodes::{ExprNode, KEPT_CAPACITY, Mark, NodeWriter, Span};
+use crate::located::Span;
+use crate::nodes::ExprNode;
+use crate::nodes::writer::{KEPT_CAPACITY, NodeWriter, Opening};
 use cfgx_syntax::error::{Failure, Reason, terms};
 use cfgx_syntax::lexer::{Lexer, LexerToken, Token};
 use cfgx_syntax::memory::SmallAllocator;
@@ -50,7 +52,7 @@ pub(crate) struct OpenFunc {
     /// The bytes of its name
     span: Span,
     /// Where it began among the nodes
-    mark: Mark,
+    opening: Opening,
     /// The list in which it stands
     around: OpenList,
 }
@@ -61,7 +63,7 @@ impl Default for OpenFunc {
         OpenFunc {
             kind: FuncKind::Not,
             span: Span { start: 0, end: 0 },
-            mark: Mark {
+            opening: Opening {
                 node: 0,
                 waiting: 0,
             },
@@ -257,11 +259,11 @@ impl<'a, A: SmallAllocator> Parser<'a, A> {
         }
     }
 
-    /// Expects a text of `len` bytes. The parser has to be new.
-    pub fn expect(&mut self, len: usize)
+    /// Prepares the room for a text of `len` bytes. The parser has to be new.
+    pub fn prepare_for(&mut self, len: usize)
         ensures { state_of self.new ≡ state_of self.old }
     {
-        self.writer.expect(len);
+        self.writer.prepare_for(len);
     }
 
     /// Moves the vectors to the heap, since `clear` overwrites each inline element with a default.
@@ -386,7 +388,7 @@ impl<'a, A: SmallAllocator> Parser<'a, A> {
         ensures opened { OnOk result (Opens self.old self.new (function_of kind) span) }
         ensures room { OnErr result (4 < room_of (state_of self.old)) }
     {
-        let mark = self.writer.begin_function()?;
+        let opening = self.writer.begin_function()?;
         // A comparison costs less than the call, which is out of line.
         if self.func_stack.len() == self.func_stack.capacity() {
             self.func_stack.reserve(1)?;
@@ -394,7 +396,7 @@ impl<'a, A: SmallAllocator> Parser<'a, A> {
         self.func_stack.push_reserved(OpenFunc {
             kind,
             span,
-            mark,
+            opening,
             around: self.list,
         });
         self.list = OpenList::new();
@@ -416,7 +418,7 @@ impl<'a, A: SmallAllocator> Parser<'a, A> {
         self.write_pending()?;
         self.list = top.around;
         self.writer
-            .end_function(top.mark, func_of(top.kind, members))?;
+            .end_function(top.opening, func_of(top.kind, members))?;
         // The function is a member of the list around it.
         self.count_member();
         Ok(())

@@ -8,7 +8,7 @@ ghost use Rattle.cfgx_parser.specs.parsing.Fields.{located_text};
 ghost use Rattle.cfgx_parser.specs.Unaskable.{YieldsFew, HasFaultyKey, IsFaultyKey};
 
 use crate::classification::{LocatedText, Pending, classify};
-use crate::nodes::Span;
+use crate::located::Span;
 use cfgx_syntax::error::Failure;
 use cfgx_syntax::lexer::{Lexer, Token};
 use cfgx_syntax::memory::SmallAllocator;

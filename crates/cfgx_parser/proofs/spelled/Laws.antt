@@ -1,6 +1,7 @@
--- The laws of the builder of nodes: for the items of a tree its nodes are written.
-use Rattle.std.proofs.Common.{◌≡◌, ℕ, ◌+◌, true, false, List, [], ◌++◌, length, Option}
-use Rattle.std.proofs.Common.{option_map, rules, arith, Some, None, refl, ap, subst}
+-- The laws of the builder of nodes: for the items of a tree its nodes are written, whose predicates
+-- are read from these items.
+use Rattle.std.proofs.Common.{◌≡◌, ℕ, ◌+◌, true, false, List, [], ◌∷◌, ◌++◌, length, Option}
+use Rattle.std.proofs.Common.{option_map, rules, arith, Some, None, refl, ap, subst, sym}
 use Rattle.std.specs.Prelude.{◌≤◌, if◌then◌else◌, unwrap_or}
 use Rattle.std.proofs.lemmas.List.{append-nil, length_push}
 use Rattle.cfgx_syntax.specs.Items.{Item}
@@ -9,8 +10,9 @@ use Rattle.cfgx_grammar.{specs.Classification.class, proofs.spelled.Calls, proof
 use Rattle.cfgx_grammar.proofs.ListLemmas.{all_of_first, all_of_second}
 use Rattle.cfgx_grammar.specs.Tree.{Tree, Trees, is_function, is_leaf, count}
 use Rattle.cfgx_grammar.{specs.parsing.State.Function, proofs.accepted.leaf_tree}
-use Rattle.cfgx_parser.specs.nodes.Located.{IsSpan, at, located, predicate_located, whole_span}
-use Rattle.cfgx_parser.specs.{nodes.Node.{Written, with_leaf}, declared.nodes.Span.Span}
+use Rattle.cfgx_parser.specs.Located.{IsSpan, at, predicate_located, whole_span}
+use Rattle.cfgx_parser.specs.ReadFrom.{IsReadFrom}
+use Rattle.cfgx_parser.specs.{nodes.Node.{Written, located, with_leaf}, declared.located.Span.Span}
 use Rattle.cfgx_parser.specs.nodes.Prefix.{Node, headed, prefix, prefix_each, places, places_by}
 use Rattle.cfgx_parser.{specs.nodes.Prefix.with_places, proofs.spelled.WritingLemmas.length-nodes}
 use Rattle.cfgx_parser.specs.nodes.WritesNodes.{IsPlaced, ArePlaced, WritesNodes}
@@ -45,54 +47,69 @@ module _ (text : List ℕ) where
   -- what is written for a tree, and for a list, whose items stand in the text
   abbrev pub MemberWrites : List Item → Written → Written → Tree Question → Type 0
   MemberWrites items w v tree = ArePlaced text items
-      → WritesNodes text w v (prefix tree) (own (length w.nodes) tree)
+      → WritesNodes text items w v (prefix tree) (own (length w.nodes) tree)
       (inner (length w.nodes) tree)
 
   abbrev ListWrites : List Item → Written → Written → Trees Question → Type 0
   ListWrites items w v trees = ArePlaced text items
-      → WritesNodes text w v (prefix_each trees) (places_by is_leaf (length w.nodes) trees)
+      → WritesNodes text items w v (prefix_each trees) (places_by is_leaf (length w.nodes) trees)
       (places_by is_function (length w.nodes) trees)
 
-  leaf_writes : (w : Written) (key_span : Span) (span : Option Span) (leaf : Leaf)
+  leaf_writes : (items : List Item) (w : Written) (key_span : Span) (span : Option Span)
+      (leaf : Leaf)
+      → ((question : Question) → class (at text key_span) (option_map (at text) span)
+      ≡ Class.is (Leaf.predicate question)
+      → IsReadFrom items (predicate_located key_span span question))
       → IsSpan text key_span → IsSpan text (unwrap_or span key_span)
       → ((question : Question)
       → (whole_span (predicate_located key_span span question)).end ≤ length text)
       → class (at text key_span) (option_map (at text) span) ≡ Class.is leaf
       → let tree = leaf_tree leaf in
-      WritesNodes text w (with_leaf (located key_span span leaf) w) (prefix tree)
+      WritesNodes text items w (with_leaf (located key_span span leaf) w) (prefix tree)
       (own (length w.nodes) tree) (inner (length w.nodes) tree)
-  leaf_writes w key_span span (Leaf.predicate question) key_cut cut ends classed =
+  leaf_writes items w key_span span (Leaf.predicate question) read key_cut cut ends classed =
       let named = subst (NamesClass text key_span span) classed
       (NamesClass-class text key_span span) in
-      WritesNodes-leaf text w _ (Node.leaf question) (ap Node.leaf named)
+      WritesNodes-leaf text items w _ (Node.leaf question) (ap Node.leaf named)
       (key_cut, cut, ends question)
-  leaf_writes w key_span span (Leaf.literal truth) key_cut cut ends classed =
-      WritesNodes-leaf text w (node.Literal truth) _ refl tt
+      ([], items, [], sym (append-nil items), read question classed, tt)
+  leaf_writes items w key_span span (Leaf.literal truth) read key_cut cut ends classed =
+      WritesNodes-leaf text items w (node.Literal truth) _ refl tt tt
 
   list_writes : (xs ys zs : List Item) (tree : Tree Question) (trees : Trees Question)
       (w v u : Written)
       → MemberWrites xs w v tree → ListWrites zs v u trees
       → ListWrites (xs ++ (ys ++ zs)) w u (Trees.more tree trees)
   list_writes xs ys zs tree trees w v u writes more placed =
-      grind (arith, WritesNodes-then, all_of_first, all_of_second, length-nodes)
+      let first = writes (all_of_first (λ i. IsPlaced text i i.token) xs (ys ++ zs) placed) in
+      let behind = all_of_second (λ i. IsPlaced text i i.token) xs (ys ++ zs) placed in
+      let rest = more (all_of_second (λ i. IsPlaced text i i.token) ys zs behind) in
+      WritesNodes-then ys first (rw (length-nodes first) at rest)
 
   call_writes : (function : Function) (tree : Tree Question) (trees : Trees Question)
       → Called function tree trees
       → Calls node_builder MemberWrites ListWrites function tree trees
   call_writes function tree trees called head opening closing members w v writes placed =
-      grind (arith, WritesNodes-function, all_of_first, length_push)
+      let inside = all_of_first (λ i. IsPlaced text i i.token) members (closing ∷ [])
+      placed.1.1 in
+      let whole = WritesNodes-function head opening closing (func_of function (count trees))
+      (writes inside) in
+      grind (arith, length_push, whole)
 
   pub node_laws : Laws node_builder
   node_laws = record {
     MemberBuilds = MemberWrites;
     ListBuilds = ListWrites;
     key = λ x key leaf w is classed placed. let word = subst (IsPlaced text x) is placed.0 in
-        leaf_writes w _ None leaf word.1 word.1 (whole_span-word text x word.1)
-        (rw word.0 classed);
+        leaf_writes (x ∷ []) w _ None leaf
+        (λ question class_is. IsReadFrom.key x key question is (rw word.0 at class_is))
+        word.1 word.1 (whole_span-word text x word.1) (rw word.0 classed);
     value = λ x y z key value leaf w x_is z_is classed placed.
         let word = subst (IsPlaced text x) x_is placed.0 in
         let (stands, within) = subst (IsPlaced text z) z_is placed.1.1.0 in
-        leaf_writes w _ (Some _) leaf word.1 stands.1
+        leaf_writes (x ∷ y ∷ z ∷ []) w _ (Some _) leaf
+        (λ question class_is. IsReadFrom.value x y z key value question x_is z_is
+        (rw (word.0, stands.0) at class_is)) word.1 stands.1
         (whole_span-quoted text x z word.1 stands.1 within) (rw (word.0, stands.0) classed);
     none = λ w placed. WritesNodes-none text w;
     more = list_writes;

@@ -1,13 +1,13 @@
 -- The predicate of a key and a value is the question of the node that is written for it.
 use Rattle.std.proofs.Common.{◌≡◌, ℕ, List, [], ◌∷◌, Option, Some, None, option_map}
 use Rattle.std.{proofs.Common.{arith, rules, refl}, specs.List.AllByRecursion}
-use Rattle.cfgx_parser.specs.declared.nodes.Span.{Span}
+use Rattle.cfgx_parser.specs.declared.located.Span.{Span}
 use Rattle.std.proofs.lemmas.Slice.Eq.{bytes_eq-Decides}
 use Rattle.cfgx_syntax.specs.Error.{Cause}
 use Rattle.cfgx_grammar.specs.Question.{Leaf, Question, TargetQuestion}
 use Rattle.cfgx_grammar.specs.Classification.{Class, Rule, class, by_name, target_rules, key_rules}
 use Rattle.cfgx_grammar.specs.Classification.{if_read, target_feature, target_class, other_class}
-use Rattle.cfgx_parser.specs.nodes.Located.{predicate_located, question_at, at}
+use Rattle.cfgx_parser.specs.Located.{predicate_located, question_at, at}
 
 module _ (text : List ℕ) (key_span : Span) where
   -- the node of the question names it in the text

@@ -1,10 +1,19 @@
 -- What the writer of nodes has written, and what each of its calls changes.
-use Rattle.std.specs.Prelude.{ℕ, ◌-◌, List, [], ◌∷◌, ◌++◌, length, take, drop, set}
+use Rattle.std.specs.Prelude.{ℕ, ◌-◌, List, [], ◌∷◌, ◌++◌, length, take, drop, set, Option}
+use Rattle.cfgx_grammar.specs.Question.{Leaf}
+use Rattle.cfgx_parser.specs.Located.{predicate_located}
 use Rattle.cfgx_parser.specs.declared.function.Func.{Func}
 use Rattle.cfgx_parser.specs.declared.function.Func.TheVariants.{Not}
-pub use Rattle.cfgx_parser.specs.declared.nodes.Mark.{Mark}
+pub use Rattle.cfgx_parser.specs.declared.nodes.writer.Opening.{Opening}
 use Rattle.cfgx_parser.specs.declared.nodes.ExprNode.{ExprNode}
 use Rattle.cfgx_parser.specs.declared.nodes.ExprNode.TheVariants as node
+use Rattle.cfgx_parser.specs.declared.located.Span.{Span}
+
+-- the node of a leaf with these spans
+abbrev pub located : Span → Option Span → Leaf → ExprNode
+located key value (Leaf.predicate question) =
+    node.Predicate (predicate_located key value question)
+located key value (Leaf.literal truth) = node.Literal truth
 
 -- `nodes` are in source order. `waiting` are the places of the predicates whose list has not ended,
 -- those of inner lists last. `places` are those of the other predicates, in the order in which they
@@ -17,8 +26,8 @@ pub record Written : Type 0 where
 abbrev pub nothing : Written
 nothing = record { nodes = []; waiting = []; places = [] }
 
-abbrev pub mark_of : Written → Mark
-mark_of w = record { node = length w.nodes; waiting = length w.waiting }
+abbrev pub opening_of : Written → Opening
+opening_of w = record { node = length w.nodes; waiting = length w.waiting }
 
 -- the place of a node, if it is a predicate
 abbrev pub asked_at : ExprNode → ℕ → List ℕ
@@ -57,6 +66,6 @@ abbrev pub completed : ℕ → Func → Written → Written
 completed place func w =
     record w { nodes = set w.nodes place (node.Fn func (length w.nodes - place)) }
 
--- the function that began at the mark ends
-abbrev pub with_function_ended : Mark → Func → Written → Written
-with_function_ended mark func w = with_list_ended mark.waiting (completed mark.node func w)
+-- the function that began at the opening ends
+abbrev pub with_function_ended : Opening → Func → Written → Written
+with_function_ended opening func w = with_list_ended opening.waiting (completed opening.node func w)

@@ -1,7 +1,7 @@
 -- What a `NodeWriter` has written.
 use Rattle.std.specs.Prelude.{◌<◌, ◌≤◌, ◌^◌, length}
 use Rattle.cfgx_parser.specs.nodes.Node.{Written}
-use Rattle.cfgx_parser.specs.declared.nodes.NodeWriter.{NodeWriter}
+use Rattle.cfgx_parser.specs.declared.nodes.writer.NodeWriter.{NodeWriter}
 
 abbrev pub written_of : {A : Type 0} → NodeWriter A → Written
 written_of w = record { nodes = w.nodes.items; waiting = w.waiting.items; places = w.places.items }

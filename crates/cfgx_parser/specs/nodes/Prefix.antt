@@ -1,12 +1,14 @@
 -- A tree as nodes in prefix notation, and the places of its predicates among them.
-use Rattle.std.specs.Prelude.{ℕ, ◌+◌, Bool, List, [], ◌∷◌, ◌++◌, length}
+use Rattle.std.specs.Prelude.{ℕ, ◌+◌, Bool, List, [], ◌∷◌, ◌++◌, length, Option, Some, None}
+use Rattle.std.specs.List.{filter_map}
 use Rattle.cfgx_grammar.specs.Question.{Question}
 use Rattle.cfgx_grammar.specs.Tree.{ListFunction, Tree, Trees, asked, asked_by, count}
-use Rattle.cfgx_parser.specs.nodes.Located.{question_at}
+use Rattle.cfgx_parser.specs.Located.{question_at}
 use Rattle.cfgx_parser.specs.declared.function.Func.{Func}
 use Rattle.cfgx_parser.specs.declared.function.Func.TheVariants.{Not, All, Any}
 use Rattle.cfgx_parser.specs.declared.nodes.ExprNode.{ExprNode}
 use Rattle.cfgx_parser.specs.declared.nodes.ExprNode.TheVariants as node
+use Rattle.cfgx_parser.specs.declared.located.LocatedPredicate.{LocatedPredicate}
 
 -- a node of a tree
 pub data Node (X : Type 0) : Type 0 where
@@ -20,6 +22,23 @@ node_map f (Node.leaf x) = Node.leaf (f x)
 node_map f (Node.literal truth) = Node.literal truth
 node_map f (Node.function func len) = Node.function func len
 
+-- the node of the program, whose leaf is a predicate where it stands
+abbrev pub inner_node : ExprNode → Node LocatedPredicate
+inner_node (node.Fn func len) = Node.function func len
+inner_node (node.Predicate predicate) = Node.leaf predicate
+inner_node (node.Literal truth) = Node.literal truth
+
+-- the predicate of a node, if it is one
+abbrev pub predicate_of : ExprNode → Option LocatedPredicate
+predicate_of (node.Fn func len) = None
+predicate_of (node.Predicate predicate) = Some predicate
+predicate_of (node.Literal truth) = None
+
+-- the predicates among nodes
+abbrev pub predicates_in : List ExprNode → List LocatedPredicate
+predicates_in nodes = filter_map predicate_of nodes
+
+-- the node of the program, whose leaf is what its predicate asks
 abbrev pub node_at : List ℕ → ExprNode → Node Question
 node_at text (node.Fn func len) = Node.function func len
 node_at text (node.Predicate predicate) = Node.leaf (question_at text predicate)

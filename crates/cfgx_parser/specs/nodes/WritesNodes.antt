@@ -4,11 +4,11 @@ use Rattle.std.specs.Prelude.{◌≡◌, ◌≤◌, ℕ, List, ◌++◌, length,
 use Rattle.std.specs.List.{AllByRecursion}
 use Rattle.cfgx_syntax.specs.Token.{Token}
 use Rattle.cfgx_syntax.specs.Items.{Item}
-use Rattle.cfgx_parser.specs.nodes.Located.{IsSpan, HasCut, at}
+use Rattle.cfgx_parser.specs.Located.{IsSpan, HasCut, at}
+use Rattle.cfgx_parser.specs.ReadFrom.{AreReadFrom, quoted_span, word_span}
 use Rattle.cfgx_parser.specs.nodes.Node.{Written}
-use Rattle.cfgx_parser.specs.nodes.Prefix.{Node, node_at}
-use Rattle.cfgx_parser.specs.nodes.ReadFrom.{quoted_span, word_span}
-use Rattle.cfgx_parser.specs.declared.nodes.Span.{Span}
+use Rattle.cfgx_parser.specs.nodes.Prefix.{Node, node_at, predicates_in}
+use Rattle.cfgx_parser.specs.declared.located.Span.{Span}
 use Rattle.cfgx_parser.specs.declared.nodes.ExprNode.{ExprNode}
 use Rattle.cfgx_parser.specs.declared.nodes.ExprNode.TheVariants as node
 
@@ -31,13 +31,15 @@ IsPlaced text item _ = Unit {0}
 abbrev pub ArePlaced : List ℕ → List Item → Type 0
 ArePlaced text items = AllByRecursion (λ item. IsPlaced text item item.token) items
 
--- Nodes were written that show these. Of their predicates, those at the places `own` belong to a
--- list that is still open, and those at the places `inner` to lists that have ended.
-pub record WritesNodes (text : List ℕ) (old new : Written) (shown : List (Node Question))
-    (own inner : List ℕ) : Type 0 where
+-- Nodes were written that show these, and whose predicates were read from the items. Predicates at
+-- the places `own` belong to a list that is still open, and those at the places `inner` to lists
+-- that have ended.
+pub record WritesNodes (text : List ℕ) (items : List Item) (old new : Written)
+    (shown : List (Node Question)) (own inner : List ℕ) : Type 0 where
   pub added : List ExprNode
   pub nodes_are : new.nodes ≡ old.nodes ++ added
   pub shown_are : map (node_at text) added ≡ shown
   pub cuts : AllByRecursion (NodeHasCut text) added
+  pub read : AreReadFrom items (predicates_in added)
   pub waiting_are : new.waiting ≡ old.waiting ++ own
   pub places_are : new.places ≡ old.places ++ inner

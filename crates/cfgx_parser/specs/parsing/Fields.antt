@@ -65,7 +65,7 @@ open_of f list = record {
   end = f.span.end;
   parens = list.parens_position;
   ended_members = list.ended_members;
-  mark = f.mark;
+  mark = f.opening;
 }
 
 -- the open functions, the innermost first; `list` is the innermost open list

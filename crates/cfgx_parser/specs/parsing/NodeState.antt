@@ -1,15 +1,15 @@
 -- The state of the parser that builds nodes.
 use Rattle.std.specs.Prelude.{ℕ, option_map, Result}
-use Rattle.cfgx_parser.specs.declared.nodes.Span.{Span}
+use Rattle.cfgx_parser.specs.declared.located.Span.{Span}
 use Rattle.cfgx_syntax.specs.Error.{Fault}
 use Rattle.cfgx_grammar.specs.Classification.{Class}
 use Rattle.cfgx_grammar.specs.LastPredicate.{class_of}
 use Rattle.cfgx_grammar.specs.parsing.State as parser
 use Rattle.cfgx_grammar.specs.parsing.State.{Function, LocatedText, Pending, Builder}
 use Rattle.cfgx_grammar.specs.parsing.Step as steps
-use Rattle.cfgx_parser.specs.nodes.Node.{Mark, Written, nothing, mark_of, with_leaf, with_function}
+use Rattle.cfgx_parser.specs.nodes.Node.{Opening, Written, located, nothing, opening_of, with_leaf}
+use Rattle.cfgx_parser.specs.nodes.Node.{with_function}
 use Rattle.cfgx_parser.specs.nodes.Node.{with_list_ended, with_function_ended}
-use Rattle.cfgx_parser.specs.nodes.Located.{located}
 use Rattle.cfgx_parser.specs.nodes.Prefix.{list_func}
 use Rattle.cfgx_parser.specs.declared.function.Func.{Func}
 use Rattle.cfgx_parser.specs.declared.function.Func.TheVariants as func
@@ -24,10 +24,10 @@ abbrev pub span_of : LocatedText → Span
 span_of text = record { start = text.start; end = text.end }
 
 -- the builder that writes nodes
-abbrev pub node_builder : Builder Written Mark ExprNode
+abbrev pub node_builder : Builder Written Opening ExprNode
 node_builder = record {
   nothing = nothing;
-  mark_of = mark_of;
+  mark_of = opening_of;
   located = λ p leaf. located (span_of p.key) (option_map span_of p.value) leaf;
   leaf = with_leaf;
   function = with_function;
@@ -36,7 +36,7 @@ node_builder = record {
 }
 
 abbrev pub OpenFunction : Type 0
-OpenFunction = parser.Open Mark
+OpenFunction = parser.Open Opening
 
 abbrev pub ParserState : Type 0
 ParserState = parser.State node_builder

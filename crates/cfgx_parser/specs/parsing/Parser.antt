@@ -2,7 +2,7 @@
 use Rattle.std.specs.Prelude.{◌≡◌, ℕ, ◌+◌, ◌-◌, ◌*◌, ◌<◌, ◌≤◌, List, length, reverse, option_map}
 use Rattle.std.specs.Prelude.{Option, Some, None, Result, Ok, Err, IsOk}
 use Rattle.std.specs.declared.ops.Range.{Range}
-use Rattle.cfgx_parser.specs.declared.nodes.Span.{Span}
+use Rattle.cfgx_parser.specs.declared.located.Span.{Span}
 use Rattle.cfgx_syntax.specs.Token as spelled
 use Rattle.cfgx_syntax.specs.Items.{Item, Ending, ItemsFrom}
 use Rattle.cfgx_syntax.specs.LexerState.{LexerState}
