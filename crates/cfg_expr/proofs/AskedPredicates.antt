@@ -3,12 +3,12 @@ use Rattle.std.proofs.{Common.{◌≡◌, ℕ, zero, suc, List, [], ◌∷◌}, 
 use Rattle.std.proofs.Common.{length, map, Option, Some, option_map, refl, ap, arith, rules}
 use Rattle.std.specs.List.{AllByRecursion, slice_get, filter_map}
 use Rattle.cfgx_grammar.{specs.Question.Question, specs.Tree.Tree, specs.Tree.asked}
-use Rattle.cfgx_parser.{specs.nodes.Located.question_at, specs.nodes.WritesNodes.NodeHasCut}
+use Rattle.cfgx_parser.{specs.Located.question_at, specs.nodes.WritesNodes.NodeHasCut}
 use Rattle.cfgx_parser.{specs.declared.nodes.ExprNode.ExprNode, proofs.Places.read-places}
 use Rattle.cfgx_parser.specs.nodes.Prefix.{Node, node_at}
-use Rattle.cfgx_parser.specs.nodes.KeepsTree.{KeepsTree, predicate_at, questions_at}
+use Rattle.cfgx_parser.specs.nodes.KeepsTree.{KeepsTree, predicate_at, predicates_at}
+use Rattle.cfgx_parser.specs.nodes.KeepsTree.{questions_at}
 use Rattle.cfgx_parser.specs.nodes.KeepsTree.{NamesPredicate, NamePredicates}
-use Rattle.cfgx_parser.specs.declared.nodes.Located.{Located}
 use Rattle.cfgx_parser.specs.declared.nodes.ExprNode.TheVariants as node
 
 -- what is asked at a place
@@ -49,13 +49,18 @@ NamePredicates-asks text nodes (place ∷ asks) (question ∷ questions) cuts e 
     (NamesPredicate-found text nodes place question cuts (cc), rest)
 NamePredicates-asks text nodes (place ∷ asks) [] cuts e = absurd (cc)
 
--- one item for each place
-pub length-named : {X : Type 0} (f : Located → X) (text : List ℕ) (nodes : List ExprNode)
-    (asks : List ℕ) → NamePredicates text nodes asks
-    → length (filter_map (λ place. option_map f (predicate_at nodes place)) asks) ≡ length asks
-length-named f text nodes [] names = refl
-length-named f text nodes (place ∷ asks) names =
-    rw names.0.stands (ap suc (length-named f text nodes asks names.1))
+-- a predicate and a question for each place
+pub length-named : (text : List ℕ) (nodes : List ExprNode) (asks : List ℕ)
+    → NamePredicates text nodes asks → length (predicates_at nodes asks) ≡ length asks
+length-named text nodes [] names = refl
+length-named text nodes (place ∷ asks) names =
+    rw names.0.stands (ap suc (length-named text nodes asks names.1))
+
+pub length-asked : (text : List ℕ) (nodes : List ExprNode) (asks : List ℕ)
+    → NamePredicates text nodes asks → length (questions_at text nodes asks) ≡ length asks
+length-asked text nodes [] names = refl
+length-asked text nodes (place ∷ asks) names =
+    rw names.0.stands (ap suc (length-asked text nodes asks names.1))
 
 module _ {text : List ℕ} {nodes : List ExprNode} {asks : List ℕ} {tree : Tree Question}
     (k : KeepsTree text nodes asks tree) where

@@ -20,47 +20,50 @@ use Rattle.cfgx_grammar.specs.Grammar.{HasTree, IsCall, IsList, IsMember, IsTree
 use Rattle.cfgx_grammar.specs.Grammar.{leaf_tokens, list_name}
 use Rattle.cfgx_grammar.specs.Question.{Leaf, Question, TargetQuestion}
 use Rattle.cfgx_grammar.specs.Tree.{ListFunction, Tree, Trees, asked}
-use Rattle.cfgx_parser.specs.Kinds.{kind_of}
-use Rattle.cfgx_parser.specs.declared.kinds.Kind.{Kind}
-use Rattle.cfgx_parser.specs.declared.kinds.Kind.TheVariants as kind
-use Rattle.cfg_expr.specs.Located.{AreLocated, AreTakenFrom, IsTakenFrom, each_in_text_order}
-use Rattle.cfg_expr.specs.Located.{in_text_order, inside_span, located_predicate, token_span}
+use Rattle.cfgx_parser.specs.Asked.{question_with, without_texts}
+use Rattle.cfgx_parser.specs.Located.{predicate_located, question_at}
+use Rattle.cfgx_parser.specs.ReadFrom.{AreReadFrom, IsReadFrom, quoted_span, word_span}
+use Rattle.cfgx_parser.specs.declared.asked.Asked.{Asked}
+use Rattle.cfgx_parser.specs.declared.asked.Asked.TheVariants.{KeyValue}
+use Rattle.cfgx_parser.specs.declared.located.LocatedPredicate.{LocatedPredicate}
+use Rattle.cfg_expr.specs.Located.{AreLocated, each_in_text_order, in_text_order}
 use Rattle.cfg_expr.specs.Located.{tree_map, trees_map}
-use Rattle.cfg_expr.specs.declared.expr.located.LocatedPredicate.{LocatedPredicate}
 
 -- What a key says alone and what it says with a value.
 
 abbrev NoLiteral : Class → Type 0
 NoLiteral one = (truth : Bool) → one ≡ Class.is (Leaf.literal truth) → ⊥
 
--- if both are leaves they are predicates of different kinds, and the second is no literal
+-- if both are leaves they are predicates that ask different things, and the second is no literal
 record Differ (alone beside : Class) : Type 0 where
-  kinds : (leaf : Leaf) (question : Question) → alone ≡ Class.is leaf
+  differs : (leaf : Leaf) (question : Question) → alone ≡ Class.is leaf
       → beside ≡ predicate question
-      → (own : Question) × (leaf ≡ Leaf.predicate own) × (kind_of own ≢ kind_of question)
+      → (own : Question) × (leaf ≡ Leaf.predicate own)
+      × (without_texts own ≢ without_texts question)
   literal : NoLiteral beside
 
 differ_bare : (leaf : Leaf) (value : List ℕ) → Differ (bare leaf None) (bare leaf (Some value))
 differ_bare leaf value = record {
-  kinds = λ own question is wrong. absurd (cc);
+  differs = λ own question is wrong. absurd (cc);
   literal = λ truth wrong. cc;
 }
 
 differ_valued : (says : List ℕ → Class) (missing value : List ℕ) → NoLiteral (says value)
     → Differ (valued says missing None) (valued says missing (Some value))
 differ_valued says missing value never = record {
-  kinds = λ own question wrong is. absurd (cc);
+  differs = λ own question wrong is. absurd (cc);
   literal = never;
 }
 
 differ_plain : (key value : List ℕ) → Differ (plain key None) (plain key (Some value))
 differ_plain key value = record {
-  kinds = λ leaf question is has. (
+  differs = λ leaf question is has. (
     Question.flag key,
     cc,
     λ same.
         let is_value : Question.key_value key value ≡ question = cc in
-        let value_kind : kind.KeyValue ≡ kind_of question = ap kind_of is_value in cc,
+        let value_asked : KeyValue ≡ without_texts question =
+        ap without_texts is_value in cc,
   );
   literal = λ truth wrong. cc;
 }
@@ -269,34 +272,34 @@ starts_of-begins (item ∷ items) begins =
 start_beside : (alone beside : Class) (question : Question) → Differ alone beside
     → beside ≡ predicate question → is_no_literal alone ≡ true
 start_beside (Class.is (Leaf.literal truth)) beside question differ is =
-    let wrong = differ.kinds (Leaf.literal truth) question refl is in
+    let wrong = differ.differs (Leaf.literal truth) question refl is in
     absurd (let same = wrong.1 in cc)
 start_beside (Class.is (Leaf.predicate own)) beside question differ is = refl
 start_beside (Class.faulty cause part) beside question differ is = refl
 
-taken-begins : (own after : List Item) (one : LocatedPredicate) → IsTakenFrom own one
+read-begins : (own after : List Item) (one : LocatedPredicate) → IsReadFrom own one
     → Begins (own ++ after)
-taken-begins _ after _ (IsTakenFrom.key x name question is classed) = rw (is, classed) refl
-taken-begins _ after _ (IsTakenFrom.value x y z name text question is z_is classed) =
+read-begins _ after _ (IsReadFrom.key x name question is classed) = rw (is, classed) refl
+read-begins _ after _ (IsReadFrom.value x y z name text question is z_is classed) =
     rw is (start_beside (class name None) _ question (class-differ name text) classed)
 
-own-starts : (own : List Item) (one : LocatedPredicate) → IsTakenFrom own one → 1 ≤ starts_of own
-own-starts _ _ (IsTakenFrom.key x name question is classed) =
-    starts_of-begins (x ∷ []) (taken-begins _ [] _ (IsTakenFrom.key x name question is classed))
-own-starts _ _ (IsTakenFrom.value x y z name text question is z_is classed) =
+own-starts : (own : List Item) (one : LocatedPredicate) → IsReadFrom own one → 1 ≤ starts_of own
+own-starts _ _ (IsReadFrom.key x name question is classed) =
+    starts_of-begins (x ∷ []) (read-begins _ [] _ (IsReadFrom.key x name question is classed))
+own-starts _ _ (IsReadFrom.value x y z name text question is z_is classed) =
     starts_of-begins (x ∷ y ∷ z ∷ [])
-    (taken-begins _ [] _ (IsTakenFrom.value x y z name text question is z_is classed))
+    (read-begins _ [] _ (IsReadFrom.value x y z name text question is z_is classed))
 
-taken-starts : (items : List Item) (list : List LocatedPredicate) → AreTakenFrom items list
+read-starts : (items : List Item) (list : List LocatedPredicate) → AreReadFrom items list
     → length list ≤ starts_of items
-taken-starts items [] taken = omega arith
-taken-starts items (one ∷ others) (before, own, after, split, is, rest) = omega (
+read-starts items [] read = omega arith
+read-starts items (one ∷ others) (before, own, after, split, is, rest) = omega (
   arith,
   ap starts_of split,
   starts_of-append before (own ++ after),
   starts_of-append own after,
   own-starts own one is,
-  taken-starts after others rest,
+  read-starts after others rest,
 )
 
 -- Both lists begin at the first such key.
@@ -315,20 +318,20 @@ same_rest (item ∷ before) rest (other ∷ others) behind none no_other begins 
     (omega (arith, starts-cons item.token (tokens_of before)))
     (omega (arith, starts-cons other.token (tokens_of others))) begins begun (cc)
 
-different_kinds : (name other text : List ℕ) (question beside : Question) → name ≡ other
+different_asked : (name other text : List ℕ) (question beside : Question) → name ≡ other
     → class name None ≡ predicate question → class other (Some text) ≡ predicate beside
-    → kind_of question ≡ kind_of beside → ⊥
-different_kinds name other text question beside same alone valued_is kinds =
-    let (own, is, differ) = (class-differ other text).kinds (Leaf.predicate question) beside
+    → without_texts question ≡ without_texts beside → ⊥
+different_asked name other text question beside same alone valued_is same_asked =
+    let (own, is, differ) = (class-differ other text).differs (Leaf.predicate question) beside
     (subst (λ (l : List ℕ). class l None ≡ predicate question) same alone) valued_is in
-    let own_is : question ≡ own = cc in differ (ap kind_of (sym own_is) ∙ kinds)
+    let own_is : question ≡ own = cc in differ (ap without_texts (sym own_is) ∙ same_asked)
 
 -- the first predicate of both, and what is behind it
 same_first : (own after own_too behind : List Item) (one other : LocatedPredicate)
-    → IsTakenFrom own one → IsTakenFrom own_too other → own ++ after ≡ own_too ++ behind
-    → one.kind ≡ other.kind → (one ≡ other) × (after ≡ behind)
-same_first _ after _ behind _ _ (IsTakenFrom.key x name question is classed)
-    (IsTakenFrom.key y other asks y_is classed_too) same kinds =
+    → IsReadFrom own one → IsReadFrom own_too other → own ++ after ≡ own_too ++ behind
+    → one.asked ≡ other.asked → (one ≡ other) × (after ≡ behind)
+same_first _ after _ behind _ _ (IsReadFrom.key x name question is classed)
+    (IsReadFrom.key y other asks y_is classed_too) same same_asked =
     let items : x ≡ y = cc in
     let tokens : Token.key name ≡ Token.key other =
     sym is ∙ ap (λ (i : Item). i.token) items ∙ y_is in
@@ -336,26 +339,24 @@ same_first _ after _ behind _ _ (IsTakenFrom.key x name question is classed)
     let classes : predicate question ≡ predicate asks =
     sym classed ∙ ap (λ (l : List ℕ). class l None) names ∙ classed_too in
     let questions : question ≡ asks = cc in (
-      ap (λ (i : Item). located_predicate (token_span i) (token_span i) (token_span i) question)
-          items
-          ∙ ap (λ (q : Question). located_predicate (token_span y) (token_span y) (token_span y) q)
-          questions,
+      ap (λ (i : Item). predicate_located (word_span i) None question) items
+          ∙ ap (λ (q : Question). predicate_located (word_span y) None q) questions,
       cc,
     )
-same_first _ after _ behind _ _ (IsTakenFrom.key x name question is classed)
-    (IsTakenFrom.value y v z other text asks y_is z_is classed_too) same kinds =
+same_first _ after _ behind _ _ (IsReadFrom.key x name question is classed)
+    (IsReadFrom.value y v z other text asks y_is z_is classed_too) same same_asked =
     let items : x ≡ y = cc in
     let tokens : Token.key name ≡ Token.key other =
     sym is ∙ ap (λ (i : Item). i.token) items ∙ y_is in
-    absurd (different_kinds name other text question asks (cc) classed classed_too kinds)
-same_first _ after _ behind _ _ (IsTakenFrom.value x v z name text question is z_is classed)
-    (IsTakenFrom.key y other asks y_is classed_too) same kinds =
+    absurd (different_asked name other text question asks (cc) classed classed_too same_asked)
+same_first _ after _ behind _ _ (IsReadFrom.value x v z name text question is z_is classed)
+    (IsReadFrom.key y other asks y_is classed_too) same same_asked =
     let items : x ≡ y = cc in
     let tokens : Token.key name ≡ Token.key other =
     sym is ∙ ap (λ (i : Item). i.token) items ∙ y_is in
-    absurd (different_kinds other name text asks question (cc) classed_too classed (sym kinds))
-same_first _ after _ behind _ _ (IsTakenFrom.value x v z name text question is z_is classed)
-    (IsTakenFrom.value y w t other bytes asks y_is t_is classed_too) same kinds =
+    absurd (different_asked other name text asks question (cc) classed_too classed (sym same_asked))
+same_first _ after _ behind _ _ (IsReadFrom.value x v z name text question is z_is classed)
+    (IsReadFrom.value y w t other bytes asks y_is t_is classed_too) same same_asked =
     let items : x ≡ y = cc in
     let ends : z ≡ t = cc in
     let tokens : Token.key name ≡ Token.key other =
@@ -368,51 +369,57 @@ same_first _ after _ behind _ _ (IsTakenFrom.value x v z name text question is z
     ∙ ap (λ (l : List ℕ). class l (Some text)) names
     ∙ ap (λ (l : List ℕ). class other (Some l)) texts ∙ classed_too in
     let questions : question ≡ asks = cc in (
-      ap (λ (i : Item). located_predicate (token_span i) (inside_span z)
-          (record { start = i.start; end = z.end }) question) items
-          ∙ ap (λ (i : Item). located_predicate (token_span y) (inside_span i)
-          (record { start = y.start; end = i.end }) question) ends
-          ∙ ap (λ (q : Question). located_predicate (token_span y) (inside_span t)
-          (record { start = y.start; end = t.end }) q) questions,
+      ap (λ (i : Item). predicate_located (word_span i) (Some (quoted_span z)) question) items
+          ∙ ap (λ (i : Item). predicate_located (word_span y) (Some (quoted_span i)) question) ends
+          ∙ ap (λ (q : Question). predicate_located (word_span y) (Some (quoted_span t)) q)
+          questions,
       cc,
     )
 
-abbrev kinds_of : List LocatedPredicate → List Kind
-kinds_of list = map (λ (p : LocatedPredicate). p.kind) list
+-- what a predicate asks without its texts is what it asks with them, without them
+asked-with : (key value : List ℕ) (asked : Asked)
+    → without_texts (question_with key value asked) ≡ asked
+asked-with key value asked = grind arith
 
-same_lists : (items : List Item) (list others : List LocatedPredicate) → AreTakenFrom items list
-    → AreTakenFrom items others → starts_of items ≤ length list
-    → kinds_of list ≡ kinds_of others → list ≡ others
-same_lists items [] [] taken taken_too many kinds = refl
-same_lists items [] (other ∷ others) taken taken_too many kinds = absurd (cc)
-same_lists items (one ∷ list) [] taken taken_too many kinds = absurd (cc)
-same_lists items (one ∷ list) (other ∷ others) (before, own, after, split, is, rest)
-    (before_too, own_too, behind, split_too, is_too, rest_too) many kinds =
-    let tails : kinds_of list ≡ kinds_of others = cc in
-    let heads : one.kind ≡ other.kind = cc in
-    let long : length list ≡ length others =
-    sym (length-map list (λ (p : LocatedPredicate). p.kind)) ∙ ap length tails
-    ∙ length-map others (λ (p : LocatedPredicate). p.kind) in
-    let first_own = own-starts own one is in
-    let first_own_too = own-starts own_too other is_too in
-    let left = taken-starts after list rest in
-    let left_too = taken-starts behind others rest_too in
-    let counts = ap starts_of split in
-    let counts_too = ap starts_of split_too in
-    let parts = starts_of-append before (own ++ after) in
-    let parts_too = starts_of-append before_too (own_too ++ behind) in
-    let more = starts_of-append own after in
-    let more_too = starts_of-append own_too behind in
-    let none : starts_of before ≡ 0 = omega arith in
-    let none_too : starts_of before_too ≡ 0 = omega arith in
-    let all_left : starts_of after ≤ length list = omega arith in
-    let same = same_rest before (own ++ after) before_too (own_too ++ behind) none none_too
-    (taken-begins own after one is) (taken-begins own_too behind other is_too)
-    (sym split ∙ split_too) in
-    let (first, ends) = same_first own after own_too behind one other is is_too same heads in
-    let tail = same_lists after list others rest
-    (subst (λ (l : List Item). AreTakenFrom l others) (sym ends) rest_too) all_left tails in
-    cc
+module _ (text : List ℕ) where
+  asked_same : (one other : LocatedPredicate) → question_at text one ≡ question_at text other
+      → one.asked ≡ other.asked
+  asked_same one other same =
+      sym (asked-with _ _ one.asked) ∙ ap without_texts same ∙ asked-with _ _ other.asked
+
+  same_lists : (items : List Item) (list others : List LocatedPredicate) → AreReadFrom items list
+      → AreReadFrom items others → starts_of items ≤ length list
+      → map (question_at text) list ≡ map (question_at text) others → list ≡ others
+  same_lists items [] [] read read_too many same_asks = refl
+  same_lists items [] (other ∷ others) read read_too many same_asks = absurd (cc)
+  same_lists items (one ∷ list) [] read read_too many same_asks = absurd (cc)
+  same_lists items (one ∷ list) (other ∷ others) (before, own, after, split, is, rest)
+      (before_too, own_too, behind, split_too, is_too, rest_too) many same_asks =
+      let tails : map (question_at text) list ≡ map (question_at text) others = cc in
+      let heads = asked_same one other (cc) in
+      let long : length list ≡ length others =
+      sym (length-map list (question_at text)) ∙ ap length tails
+      ∙ length-map others (question_at text) in
+      let first_own = own-starts own one is in
+      let first_own_too = own-starts own_too other is_too in
+      let left = read-starts after list rest in
+      let left_too = read-starts behind others rest_too in
+      let counts = ap starts_of split in
+      let counts_too = ap starts_of split_too in
+      let parts = starts_of-append before (own ++ after) in
+      let parts_too = starts_of-append before_too (own_too ++ behind) in
+      let more = starts_of-append own after in
+      let more_too = starts_of-append own_too behind in
+      let none : starts_of before ≡ 0 = omega arith in
+      let none_too : starts_of before_too ≡ 0 = omega arith in
+      let all_left : starts_of after ≤ length list = omega arith in
+      let same = same_rest before (own ++ after) before_too (own_too ++ behind) none none_too
+      (read-begins own after one is) (read-begins own_too behind other is_too)
+      (sym split ∙ split_too) in
+      let (first, ends) = same_first own after own_too behind one other is is_too same heads in
+      let tail = same_lists after list others rest
+      (subst (λ (l : List Item). AreReadFrom l others) (sym ends) rest_too) all_left tails in
+      cc
 
 -- Trees of one shape are told by their predicates in the order of the text.
 
@@ -473,26 +480,25 @@ text-starts text tree items has are =
 pub located_once : (text : List ℕ) (list others : List LocatedPredicate) → AreLocated text list
     → AreLocated text others → list ≡ others
 located_once text list others here there =
-    let kind_at = λ (p : LocatedPredicate). p.kind in
     let reads : Ok there.one.tree ≡ Ok here.one.tree =
     here.one.reads.only (Ok there.one.tree) there.one.reads.has in
     let trees : there.one.tree ≡ here.one.tree = cc in
-    let same_items = ItemsFrom-same text 0 here.items there.items Ending.blank Ending.blank
-    here.are_items there.are_items in
-    let kinds : tree_map kind_at here.located ≡ tree_map kind_at there.located =
-    here.kinds ∙ ap (tree_map kind_of) (sym trees) ∙ sym there.kinds in
+    let same_items = ItemsFrom-same text 0 here.read.items there.read.items Ending.blank
+    Ending.blank here.read.are_items there.read.are_items in
+    let shapes : tree_map (question_at text) here.located
+    ≡ tree_map (question_at text) there.located = here.asks ∙ sym trees ∙ sym there.asks in
     let many : length (in_text_order here.one.tree) ≡ length (in_text_order here.located) =
-    sym (length-map (in_text_order here.one.tree) kind_of)
-    ∙ ap length (text_order-map kind_of here.one.tree
-    ∙ ap in_text_order (sym here.kinds) ∙ sym (text_order-map kind_at here.located))
-    ∙ length-map (in_text_order here.located) kind_at in
-    let starts_are = text-starts text here.one.tree here.items here.one.reads.has
-    here.are_items in
-    let lists = same_lists here.items (in_text_order here.located) (in_text_order there.located)
-    here.taken (subst (λ (l : List Item). AreTakenFrom l (in_text_order there.located))
-    same_items.0 there.taken) (omega arith)
-    (text_order-map kind_at here.located ∙ ap in_text_order kinds
-    ∙ sym (text_order-map kind_at there.located)) in
-    let located_same = same_tree kind_at here.located there.located kinds [] []
+    ap (λ (t : Tree Question). length (in_text_order t)) (sym here.asks)
+    ∙ ap length (sym (text_order-map (question_at text) here.located))
+    ∙ length-map (in_text_order here.located) (question_at text) in
+    let starts_are = text-starts text here.one.tree here.read.items here.one.reads.has
+    here.read.are_items in
+    let lists = same_lists text here.read.items (in_text_order here.located)
+    (in_text_order there.located) here.read.read
+    (subst (λ (l : List Item). AreReadFrom l (in_text_order there.located))
+    same_items.0 there.read.read) (omega arith)
+    (text_order-map (question_at text) here.located ∙ ap in_text_order shapes
+    ∙ sym (text_order-map (question_at text) there.located)) in
+    let located_same = same_tree (question_at text) here.located there.located shapes [] []
     (ap (λ (l : List LocatedPredicate). l ++ []) lists) in
     here.listed ∙ ap asked located_same.0 ∙ sym there.listed

@@ -1,43 +1,54 @@
--- The tests of whether two questions are the same. Each question has a code, a list that no other
--- question has.
-use Rattle.std.specs.Prelude.{ℕ, Bool, List, [], ◌∷◌, nat_eq}
-use Rattle.std.specs.Ordering.{on}
-use Rattle.std.specs.Cmp.Lexicographic.{pointwise}
-use Rattle.cfgx_fields.specs.Endian.{endian_rank}
-use Rattle.cfgx_fields.specs.declared.atomic.HasAtomic.{HasAtomic}
-use Rattle.cfgx_fields.specs.declared.atomic.HasAtomic.TheVariants.{IntegerSize, Pointer}
+-- The codes by which predicates are compared. No two questions have the same code.
+use Rattle.std.specs.Prelude.{ℕ, Bool, List, [], ◌∷◌, Option, Some, None, length, nat_eq}
+use Rattle.std.specs.Ordering.{nat_cmp, on}
+use Rattle.std.specs.declared.cmp.Ordering.{Ordering}
+use Rattle.std.specs.Cmp.Lexicographic.{pointwise, slice_cmp}
 use Rattle.cfgx_grammar.specs.Question.{Question, TargetQuestion}
-use Rattle.cfgx_parser.specs.Kinds.{kind_number}
-use Rattle.cfgx_parser.specs.declared.kinds.Kind.TheVariants as kind
+use Rattle.cfgx_parser.specs.Asked.{asked_number, key_of, kind_number, value_of, without_texts}
+use Rattle.cfgx_parser.specs.declared.asked.Asked.{Asked}
+use Rattle.cfg_expr.specs.declared.expr.asked_texts.AskedTexts.{AskedTexts}
 
-abbrev pub atomic_code : HasAtomic → List ℕ
-atomic_code (IntegerSize bits) = bits ∷ []
-atomic_code Pointer = []
+abbrev pub Code : Type 0
+Code = List (List ℕ)
 
--- the number of the kind, and then the text or the number that it has
-abbrev pub target_code : TargetQuestion → List ℕ
-target_code (TargetQuestion.text key text) = kind_number (kind.Text key) ∷ text
-target_code (TargetQuestion.endian endian) = kind_number kind.Endian ∷ endian_rank endian ∷ []
-target_code (TargetQuestion.has_atomic width) = kind_number kind.HasAtomic ∷ atomic_code width
-target_code (TargetQuestion.pointer_width bits) = kind_number kind.PointerWidth ∷ bits ∷ []
+-- the number, if there is one
+abbrev pub number_code : Option ℕ → List ℕ
+number_code None = []
+number_code (Some number) = number ∷ []
 
--- the number of the kind, and then its texts; a question on the target has its code
-abbrev pub question_code : Question → List (List ℕ)
-question_code (Question.target question) = target_code question ∷ []
-question_code Question.test = (kind_number kind.Test ∷ []) ∷ []
-question_code Question.debug_assertions = (kind_number kind.DebugAssertions ∷ []) ∷ []
-question_code Question.proc_macro = (kind_number kind.ProcMacro ∷ []) ∷ []
-question_code (Question.feature text) = (kind_number kind.Feature ∷ []) ∷ text ∷ []
-question_code (Question.target_feature text) =
-    (kind_number kind.TargetFeature ∷ []) ∷ text ∷ []
-question_code (Question.flag key) = (kind_number kind.Flag ∷ []) ∷ key ∷ []
-question_code (Question.key_value key value) =
-    (kind_number kind.KeyValue ∷ []) ∷ key ∷ value ∷ []
+-- the number of the kind, and the number of what is asked, if there is one
+abbrev pub asked_code : Asked → List ℕ
+asked_code one = kind_number one ∷ number_code (asked_number one)
+
+-- these numbers, the lengths of the key and of the value, the key, and the value
+abbrev pub code_with : Asked → List ℕ → List ℕ → Code
+code_with one key value =
+    asked_code one ∷ (length key ∷ length value ∷ []) ∷ key ∷ value ∷ []
+
+-- the code of what a predicate asks with its texts
+abbrev pub texts_code : AskedTexts → Code
+texts_code texts = code_with texts.asked texts.key.now texts.value.now
+
+-- the code of a question
+abbrev pub question_code : Question → Code
+question_code question =
+    code_with (without_texts question) (key_of question) (value_of question)
+
+abbrev pub target_code : TargetQuestion → Code
+target_code question = question_code (Question.target question)
+
+-- whether two codes are the same
+abbrev pub code_eq : Code → Code → Bool
+code_eq = pointwise (pointwise nat_eq)
+
+-- the order of codes
+abbrev pub code_cmp : Code → Code → Ordering
+code_cmp = slice_cmp (slice_cmp nat_cmp)
 
 -- whether two questions on the target are the same
 abbrev pub target_eq : TargetQuestion → TargetQuestion → Bool
-target_eq = on target_code (pointwise nat_eq)
+target_eq = on target_code code_eq
 
 -- whether two questions are the same
 abbrev pub question_eq : Question → Question → Bool
-question_eq = on question_code (pointwise (pointwise nat_eq))
+question_eq = on question_code code_eq

@@ -2,7 +2,8 @@
 -- Source: Polish notation, in which a function stands in front of its members.
 use Rattle.std.specs.Prelude.{◌≡◌, ◌≢◌, ◌<◌, ◌++◌, ℕ, Bool, List, [], ◌∷◌, count_by, false}
 use Rattle.std.specs.Prelude.{get_or, length, map, nat_eq, true}
-use Rattle.std.specs.{Cmp.Lexicographic.pointwise, List.{AllByRecursion, range_with_len}, Ordering.on}
+use Rattle.std.specs.{Cmp.Lexicographic.pointwise, Ordering.on}
+use Rattle.std.specs.List.{AllByRecursion, range_with_len}
 use Rattle.cfgx_grammar.specs.Answer.{HasOneTree}
 use Rattle.cfgx_grammar.specs.Tree.{ListFunction, Tree, Trees, asked, count}
 use Rattle.cfgx_parser.specs.declared.function.Func.TheVariants.{Not, All, Any}

@@ -6,5 +6,5 @@ pub use Rattle.cfg_expr.specs.Fold.{tree_fold}
 pub use Rattle.cfgx_grammar.specs.Grammar.{HasTree}
 pub use Rattle.cfgx_grammar.specs.Question.{Question, TargetQuestion}
 pub use Rattle.cfgx_grammar.specs.Tree.{Tree, asked}
-pub use Rattle.cfgx_parser.specs.Kinds.{kind_of, kind_number}
+pub use Rattle.cfgx_parser.specs.Asked.{kind_number, without_texts}
 pub use Rattle.cfg_expr.specs.Predicate.{question_of}

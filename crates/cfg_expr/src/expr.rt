@@ -8,6 +8,7 @@ ghost use Rattle.cfg_expr.specs.Evaluation.{AsksInOrder, EvaluatesTo, MayEvaluat
 ghost use Rattle.cfg_expr.specs.Evaluation.{IsByLaneOverAll, IsValueInLanes};
 ghost use Rattle.cfg_expr.specs.Steps.{AreSteps};
 
+mod asked_texts;
 mod condition;
 mod evaluating;
 mod filling;
@@ -20,17 +21,18 @@ mod steps;
 
 use crate::error::Failure;
 use crate::memory::SmallAllocator;
+pub use asked_texts::AskedTexts;
+pub use cfgx_parser::asked::{Asked, AskedTarget};
 pub use cfgx_parser::function::Func;
-pub use cfgx_parser::kinds::Kind;
+pub use cfgx_parser::located::{LocatedPredicate, Span};
 use cfgx_parser::nodes::ExprNode;
-pub use cfgx_parser::nodes::Span;
 use cfgx_parser::parser::Parser;
 use cfgx_syntax::lexer::Lexer;
 use cfgx_syntax::logic::Kleene64;
 pub use cfgx_syntax::logic::Logic;
 pub use cfgx_syntax::{lexer, logic};
 pub use condition::{Condition, ConditionReader};
-pub use located::{LocatedPredicate, LocatedPredicates};
+pub use located::LocatedPredicates;
 pub use matcher::TargetMatcher;
 pub use predicates::{Predicate, Predicates, TargetPredicate};
 use smallvec::SmallVec;

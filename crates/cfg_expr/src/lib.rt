@@ -7,4 +7,4 @@ pub mod targets;
 
 pub use cfgx_syntax::memory;
 pub use error::ParseError;
-pub use expr::{Decision, Expression, Kind, Predicate, TargetPredicate};
+pub use expr::{Asked, Decision, Expression, Predicate, TargetPredicate};

@@ -1,6 +1,7 @@
 -- Answers that are put at the places of a tree's predicates, in the order in which it asks, stand
 -- there as its nodes do.
-use Rattle.std.proofs.Common.{◌≡◌, ⊎_elim, Bool, true, ℕ, zero, suc, ◌+◌, ◌-◌, ◌<◌, List, [], ◌∷◌, length}
+use Rattle.std.proofs.Common.{◌≡◌, ⊎_elim, Bool, true, ℕ, zero, suc, ◌+◌, ◌-◌, ◌<◌}
+use Rattle.std.proofs.Common.{List, [], ◌∷◌, length}
 use Rattle.std.proofs.Common.{Some, map, get_or, set, refl, sym, ap, ◌∙◌, arith}
 use Rattle.std.proofs.{lemmas.Bool.cases_eq, lemmas.Bool.cases_lt, lemmas.Grind.get_or-set_at}
 use Rattle.std.proofs.{Math.Dec.ltb, lemmas.Bool.{lt-ltb, ltb-true}, lemmas.Simd.splat_is_map}
@@ -47,7 +48,8 @@ put-right blank all slots (p ∷ ps) (x ∷ xs) found many right =
     (λ same. ⊎_elim
     (λ below. get_or-set_at slots p place x blank same below ∙ sym here
     ∙ ap (λ n. get_or all n blank) (sym same))
-    (λ past. get_or_past (set slots p x) place blank (omega (arith, same, past, length-set slots p x))
+    (λ past. get_or_past (set slots p x) place blank
+    (omega (arith, same, past, length-set slots p x))
     ∙ sym (get_or_past all place blank (omega (arith, same, past, many))))
     (cases_lt p (length slots)))
     (λ other. get_or-set_other slots p place x blank other ∙ right place (other, misses))

@@ -40,7 +40,7 @@ module _ {T : Type 0} (logic : Operations T) (answers : List T) where
       inside-member (test tree) (asked tree) (asked_by test trees) inside.0
       (inside-list test trees inside.1)
 
-  -- these are the steps of some trees, of which there are so many
+  -- these are the steps of this number of trees
   record Forest (all : List Step) (many : ℕ) : Type 0 where
     trees : Trees ℕ
     are : steps_each trees ≡ all
@@ -174,12 +174,14 @@ module _ {T : Type 0} (logic : Operations T) (answers : List T) where
   forest-read (Ask number ∷ all) stack is =
       let first = pushed (answer_item (slice_get answers number))
       (read logic (map (step_item logic answers) all)) stack is in
-      let (answer, found, many) = answer-some (slice_get answers number) first.below stack first.pushes in
+      let (answer, found, many) = answer-some (slice_get answers number)
+      first.below stack first.pushes in
       forest-more (Tree.leaf number) _ _ _ _ refl (slice_get_within answers number answer found, tt)
       (forest-read all first.below first.is) many
   forest-read (Literal truth ∷ all) stack is =
       let literal = Some (literal_value logic truth) in
-      let first = pushed (answer_item literal) (read logic (map (step_item logic answers) all)) stack
+      let first = pushed (answer_item literal)
+      (read logic (map (step_item logic answers) all)) stack
       is in
       let (answer, found, many) = answer-some literal first.below stack first.pushes in
       forest-more (Tree.literal truth) _ _ _ _ refl tt (forest-read all first.below first.is) many

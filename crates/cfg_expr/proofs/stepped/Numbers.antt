@@ -14,7 +14,8 @@ use Rattle.cfgx_grammar.{specs.Answer.HasOneTree, proofs.Answering.only_tree}
 use Rattle.cfgx_parser.specs.nodes.Prefix.{Node, node_at, places, prefix}
 use Rattle.cfgx_parser.specs.nodes.Shape.{shape, shape_of}
 use Rattle.cfgx_parser.specs.declared.nodes.ExprNode.{ExprNode}
-use Rattle.cfgx_parser.proofs.{Places.length-places, Shapes.{length-shape, places-shape, shapes-shape}}
+use Rattle.cfgx_parser.proofs.Places.{length-places}
+use Rattle.cfgx_parser.proofs.Shapes.{length-shape, places-shape, shapes-shape}
 use Rattle.cfg_expr.specs.Fold.{Left, Operations, answered, answered_each, first_or}
 use Rattle.cfg_expr.specs.Fold.{left_to, tree_fold}
 use Rattle.cfg_expr.specs.Steps.{AreCounted, HasValue, answer_at, is_ask, list_step, mapped}
@@ -167,7 +168,8 @@ steps-written {T = T} form nodes {ps} kept found =
     ap (range_with_len 0) (ap length places_are ∙ length-places numbers
     ∙ ap length (asked-numbered tree) ∙ length-range_with_len 0 (length (asked tree)))
     ∙ sym (asked-numbered tree) in
-    let written : map (λ node. form (shape_step (shape node))) nodes ≡ map open_step (prefix numbers) =
+    let written : map (λ node. form (shape_step (shape node))) nodes
+    ≡ map open_step (prefix numbers) =
     sym (map-map (λ s. form (shape_step s)) shape nodes)
     ∙ ap (map (λ s. form (shape_step s)))
     (shapes-kept nodes kept kept.0 ∙ shapes-shape tree numbers same)

@@ -289,7 +289,7 @@ fn begin<A: SmallAllocator>(
     if has_read {
         return parser.restart(len);
     }
-    parser.expect(len);
+    parser.prepare_for(len);
     Ok(())
 }
 

@@ -199,8 +199,8 @@ impl<T: Logic> Stack<'_, T> {
         Some(())
     }
 
-    /// Reads `node`, whose slot is at `place`: pushes its answer or its value, or applies it. Returns
-    /// `None` if a function finds too few members.
+    /// Reads `node`, whose slot is at `place`: pushes its answer or its value, or applies it.
+    /// Returns `None` if a function finds too few members.
     fn read(&mut self, node: &ExprNode, place: usize) -> Option<()>
         requires { (place < self.old.begin) × (self.old.begin ≤ length self.old.slots.now) }
         ensures entries { let read = item T.Logic (shape node.now)

@@ -1,6 +1,7 @@
 //! Laws on the values of all conditions, for proofs of callers. Each function does nothing, and its
 //! caller knows what it ensures.
-ghost use Rattle.std.specs.Prelude.{◌≡◌, ℕ, ◌<◌, ◌≤◌, ◌+◌, ◌*◌, Bool, List, Option, Some, length, map};
+ghost use Rattle.std.specs.Prelude.{◌≡◌, ℕ, ◌<◌, ◌≤◌, ◌+◌, ◌*◌, Bool, List, Option, Some};
+ghost use Rattle.std.specs.Prelude.{length, map};
 ghost use Rattle.std.specs.List.{AllByRecursion};
 ghost use Rattle.cfgx_syntax.specs.Kleene.{lane};
 ghost use Rattle.cfgx_syntax.specs.Token.{Token};
@@ -12,7 +13,7 @@ ghost use Rattle.cfgx_grammar.specs.Grammar.{HasTree, IsTree, commas_and_opens};
 ghost use Rattle.cfgx_grammar.specs.Question.{Question};
 ghost use Rattle.cfgx_grammar.specs.Tree.{ListFunction, Tree, Trees, arranged, asked, asked_each};
 ghost use Rattle.cfg_expr.specs.Steps.{AreCounted, HasValue, steps_of};
-ghost use Rattle.cfg_expr.specs.declared.expr.located.LocatedPredicate.{LocatedPredicate};
+ghost use Rattle.cfgx_parser.specs.declared.located.LocatedPredicate.{LocatedPredicate};
 ghost use Rattle.cfg_expr.specs.declared.expr.steps.Step.{Step};
 
 use super::Logic;
@@ -54,7 +55,8 @@ pub fn lanes_are_homomorphisms()
 {}
 
 /// The steps of a condition have its value over answers to its predicates. So a loop that reads the
-/// steps from the last to the first with a stack evaluates the condition, in any logic.
+/// steps from the last to the first with a stack, and joins members as `list_value` does, evaluates
+/// the condition in any logic.
 pub fn steps_have_the_value<T: Logic>()
     ensures value { (tree : Tree Question) (answers : List T)
         → length answers ≡ length (asked tree)

@@ -5,17 +5,19 @@ ghost use Rattle.std.specs.Cmp.Lexicographic.{lists_equiv, nat_list_eq_equiv};
 ghost use Rattle.std.specs.Cmp.{on_equiv};
 ghost use Rattle.std.specs.Ordering.{on};
 ghost use Rattle.cfg_expr.specs.Equality.{question_code, question_eq, target_code, target_eq};
+ghost use Rattle.cfg_expr.specs.Equality.{texts_code};
 ghost use Rattle.cfg_expr.specs.Predicate.{question_of, target_of};
-ghost use Rattle.cfgx_parser.specs.Kinds.{kind_of};
-ghost use Rattle.cfgx_parser.specs.nodes.Located.{HasCut, inner_target, question_at};
-ghost use Rattle.cfgx_parser.specs.nodes.Located.{target_text, target_with};
+ghost use Rattle.cfgx_parser.specs.Asked.{target_text, target_with, without_text};
+ghost use Rattle.cfgx_parser.specs.Located.{HasCut, question_at};
 
+use super::AskedTexts;
 use cfgx_fields::atomic::HasAtomic;
 use cfgx_fields::endian::Endian;
 use cfgx_fields::text_key::TextKey;
 use cfgx_fields::{Abi, Arch, Env, Family, Os, Panic, Vendor};
-use cfgx_parser::kinds::Kind;
-use cfgx_parser::nodes::{ExprNode, InnerPredicate, InnerTarget, Located};
+use cfgx_parser::asked::{Asked, AskedTarget};
+use cfgx_parser::located::LocatedPredicate;
+use cfgx_parser::nodes::ExprNode;
 use std::alloc::{Allocator, Global};
 use std::marker::Model;
 
@@ -79,7 +81,7 @@ impl<A: Allocator> PartialEq for TargetPredicate<'_, A> {
     ghost eq = { on target_of target_eq };
 
     ghost laws = { partial_equiv_from_equiv
-        (on_equiv target_of (on_equiv target_code nat_list_eq_equiv)) };
+        (on_equiv target_of (on_equiv target_code (lists_equiv nat_list_eq_equiv))) };
 
     fn eq(&self, other: &Self) -> bool
         ensures value { result ≡ target_eq (target_of self.now) (target_of other.now) }
@@ -92,7 +94,7 @@ impl<A: Allocator> PartialEq for TargetPredicate<'_, A> {
 }
 
 impl<A: Allocator> Eq for TargetPredicate<'_, A> {
-    ghost laws = { on_equiv target_of (on_equiv target_code nat_list_eq_equiv) };
+    ghost laws = { on_equiv target_of (on_equiv target_code (lists_equiv nat_list_eq_equiv)) };
 }
 
 /// Two predicates are equal if they have the same kind, key and value, wherever their texts lie.
@@ -106,24 +108,7 @@ impl<A: Allocator> PartialEq for Predicate<'_, A> {
         ensures value { result ≡ question_eq (question_of self.now) (question_of other.now) }
         ensures same { IsTrue result ↔ (question_of self.now ≡ question_of other.now) }
     {
-        use Predicate::*;
-        match (self, other) {
-            (Target(one), Target(other)) => one == other,
-            (Test, Test) => true,
-            (DebugAssertions, DebugAssertions) => true,
-            (ProcMacro, ProcMacro) => true,
-            (Feature(one), Feature(other)) => one == other,
-            (TargetFeature(one), TargetFeature(other)) => one == other,
-            (Flag(one), Flag(other)) => one == other,
-            (
-                KeyValue { key, val },
-                KeyValue {
-                    key: other_key,
-                    val: other_val,
-                },
-            ) => { key == other_key && val == other_val }
-            _ => false,
-        }
+        self.asked_texts() == other.asked_texts()
     }
 }
 
@@ -134,10 +119,10 @@ impl<A: Allocator> Eq for Predicate<'_, A> {
 
 impl<'a> TargetPredicate<'a> {
     /// Returns the predicate that asks `asked`. Its text, if its key has one, is `text`.
-    pub(super) fn of(asked: InnerTarget, text: &'a str) -> Self
+    pub(super) fn of(asked: AskedTarget, text: &'a str) -> Self
         ensures { target_of result ≡ target_with text.now asked }
     {
-        use InnerTarget::Text;
+        use AskedTarget::Text;
         match asked {
             Text(TextKey::Abi) => TargetPredicate::Abi(Abi::new_const(text)),
             Text(TextKey::Arch) => TargetPredicate::Arch(Arch::new_const(text)),
@@ -146,9 +131,9 @@ impl<'a> TargetPredicate<'a> {
             Text(TextKey::Os) => TargetPredicate::Os(Os::new_const(text)),
             Text(TextKey::Panic) => TargetPredicate::Panic(Panic::new_const(text)),
             Text(TextKey::Vendor) => TargetPredicate::Vendor(Vendor::new_const(text)),
-            InnerTarget::Endian(endian) => TargetPredicate::Endian(endian),
-            InnerTarget::HasAtomic(width) => TargetPredicate::HasAtomic(width),
-            InnerTarget::PointerWidth(bits) => TargetPredicate::PointerWidth(bits),
+            AskedTarget::Endian(endian) => TargetPredicate::Endian(endian),
+            AskedTarget::HasAtomic(width) => TargetPredicate::HasAtomic(width),
+            AskedTarget::PointerWidth(bits) => TargetPredicate::PointerWidth(bits),
         }
     }
 }
@@ -156,45 +141,45 @@ impl<'a> TargetPredicate<'a> {
 impl<A: Allocator> TargetPredicate<'_, A> {
     /// Returns what is asked, and the text that is asked for, which is empty for a number or a
     /// byte order.
-    pub(super) fn parts(&self) -> (InnerTarget, &str)
-        ensures asked { result.0 ≡ inner_target (target_of self.now) }
+    pub(super) fn parts(&self) -> (AskedTarget, &str)
+        ensures asked { result.0 ≡ without_text (target_of self.now) }
         ensures text { result.1.now ≡ target_text (target_of self.now) }
     {
-        use InnerTarget::Text;
+        use AskedTarget::Text;
         match self {
             TargetPredicate::Abi(abi) => (Text(TextKey::Abi), abi.as_str()),
             TargetPredicate::Arch(arch) => (Text(TextKey::Arch), arch.as_str()),
-            TargetPredicate::Endian(endian) => (InnerTarget::Endian(*endian), ""),
+            TargetPredicate::Endian(endian) => (AskedTarget::Endian(*endian), ""),
             TargetPredicate::Env(env) => (Text(TextKey::Env), env.as_str()),
             TargetPredicate::Family(family) => (Text(TextKey::Family), family.as_str()),
-            TargetPredicate::HasAtomic(width) => (InnerTarget::HasAtomic(*width), ""),
+            TargetPredicate::HasAtomic(width) => (AskedTarget::HasAtomic(*width), ""),
             TargetPredicate::Os(os) => (Text(TextKey::Os), os.as_str()),
             TargetPredicate::Panic(panic) => (Text(TextKey::Panic), panic.as_str()),
-            TargetPredicate::PointerWidth(bits) => (InnerTarget::PointerWidth(*bits), ""),
+            TargetPredicate::PointerWidth(bits) => (AskedTarget::PointerWidth(*bits), ""),
             TargetPredicate::Vendor(vendor) => (Text(TextKey::Vendor), vendor.as_str()),
         }
     }
 }
 
 impl<'a> Predicate<'a> {
-    /// Returns the predicate of a node, with its texts cut out of `text`, in which it stands.
+    /// Returns the predicate at `located`, with its texts cut out of `text`, in which it stands.
     #[inline(always)]
-    pub(super) fn of(node: &Located, text: &'a str) -> Self
-        requires { HasCut text.now node.now }
-        ensures { question_of result ≡ question_at text.now node.now }
+    pub(super) fn of(located: &LocatedPredicate, text: &'a str) -> Self
+        requires { HasCut text.now located.now }
+        ensures { question_of result ≡ question_at text.now located.now }
     {
-        let Located { asked, key, value } = *node;
+        let LocatedPredicate { asked, key, value } = *located;
         match asked {
-            InnerPredicate::Target(target) => {
+            Asked::Target(target) => {
                 Predicate::Target(TargetPredicate::of(target, value.cut(text)))
             }
-            InnerPredicate::Test => Predicate::Test,
-            InnerPredicate::DebugAssertions => Predicate::DebugAssertions,
-            InnerPredicate::ProcMacro => Predicate::ProcMacro,
-            InnerPredicate::Feature => Predicate::Feature(value.cut(text)),
-            InnerPredicate::TargetFeature => Predicate::TargetFeature(value.cut(text)),
-            InnerPredicate::Flag => Predicate::Flag(key.cut(text)),
-            InnerPredicate::KeyValue => Predicate::KeyValue {
+            Asked::Test => Predicate::Test,
+            Asked::DebugAssertions => Predicate::DebugAssertions,
+            Asked::ProcMacro => Predicate::ProcMacro,
+            Asked::Feature => Predicate::Feature(value.cut(text)),
+            Asked::TargetFeature => Predicate::TargetFeature(value.cut(text)),
+            Asked::Flag => Predicate::Flag(key.cut(text)),
+            Asked::KeyValue => Predicate::KeyValue {
                 key: key.cut(text),
                 val: value.cut(text),
             },
@@ -203,19 +188,27 @@ impl<'a> Predicate<'a> {
 }
 
 impl<A: Allocator> Predicate<'_, A> {
-    /// Returns the kind of the predicate.
-    pub fn kind(&self) -> Kind
-        ensures { result ≡ kind_of (question_of self.now) }
+    /// Returns what the predicate asks, with its texts.
+    pub fn asked_texts(&self) -> AskedTexts<'_>
+        ensures { texts_code result ≡ question_code (question_of self.now) }
     {
-        match self {
-            Predicate::Target(target) => target.parts().0.kind(),
-            Predicate::Test => Kind::Test,
-            Predicate::DebugAssertions => Kind::DebugAssertions,
-            Predicate::ProcMacro => Kind::ProcMacro,
-            Predicate::Feature(_) => Kind::Feature,
-            Predicate::TargetFeature(_) => Kind::TargetFeature,
-            Predicate::Flag(_) => Kind::Flag,
-            Predicate::KeyValue { .. } => Kind::KeyValue,
+        let (asked, key, value) = match self {
+            Predicate::Target(target) => {
+                let (asked, text) = target.parts();
+                (Asked::Target(asked), "", text)
+            }
+            Predicate::Test => (Asked::Test, "", ""),
+            Predicate::DebugAssertions => (Asked::DebugAssertions, "", ""),
+            Predicate::ProcMacro => (Asked::ProcMacro, "", ""),
+            Predicate::Feature(name) => (Asked::Feature, "", *name),
+            Predicate::TargetFeature(name) => (Asked::TargetFeature, "", *name),
+            Predicate::Flag(key) => (Asked::Flag, *key, ""),
+            Predicate::KeyValue { key, val } => (Asked::KeyValue, *key, *val),
+        };
+        AskedTexts {
+            asked,
+            key: key.as_bytes(),
+            value: value.as_bytes(),
         }
     }
 }
@@ -279,7 +272,7 @@ impl<'a> Iterator for Predicates<'a> {
         let (place, others) = self.places.split_first()?;
         self.places = others;
         match self.nodes.get(*place) {
-            Some(ExprNode::Predicate(node)) => Some(Predicate::of(node, self.text)),
+            Some(ExprNode::Predicate(located)) => Some(Predicate::of(located, self.text)),
             _ => unreachable!(),
         }
     }

@@ -13,7 +13,7 @@ ghost use Rattle.cfg_expr.specs.spelling.ValueBytes.{value_bytes};
 use super::{Predicate, TargetPredicate};
 use cfgx_fields::atomic::HasAtomic;
 use cfgx_fields::endian::Endian;
-use cfgx_parser::nodes::InnerTarget;
+use cfgx_parser::asked::AskedTarget;
 use std::alloc::Allocator;
 use std::io::{self, ErrorKind, Write};
 
@@ -134,10 +134,10 @@ fn target_parts<'a, A: Allocator>(target: &'a TargetPredicate<'_, A>) -> (&'stat
         ≡ target_spelling (target_of target.now) }
 {
     match target.parts() {
-        (InnerTarget::Text(key), text) => (key.name(), Value::Text(text)),
-        (InnerTarget::Endian(endian), _) => ("target_endian", Value::Text(endian_name(endian))),
-        (InnerTarget::HasAtomic(width), _) => ("target_has_atomic", atomic_value(width)),
-        (InnerTarget::PointerWidth(bits), _) => {
+        (AskedTarget::Text(key), text) => (key.name(), Value::Text(text)),
+        (AskedTarget::Endian(endian), _) => ("target_endian", Value::Text(endian_name(endian))),
+        (AskedTarget::HasAtomic(width), _) => ("target_has_atomic", atomic_value(width)),
+        (AskedTarget::PointerWidth(bits), _) => {
             ("target_pointer_width", Value::Number(u16::from(bits)))
         }
     }

@@ -44,7 +44,8 @@ eval_nodes-requires g c = omega (
 -- the value is that of the tree over the answers of the closure
 value : (g : Over) (c : After-eval_nodes g) → (answers : List g.row.T.Denot)
     → Calls g.EP.FnMut c.args.ep.now c.predicates.result answers c.ask_each.new.ep
-    → c.ask_each.new.slots ≡ with_answers c.as_mut_slice-slots.result.now c.places.result.now answers
+    → c.ask_each.new.slots
+    ≡ with_answers c.as_mut_slice-slots.result.now c.places.result.now answers
     → c.eval_nodes.result
     ≡ Some (tree_fold g.T.Logic c.predicates.ensures.asked.0.tree answers)
 value g c answers calls put = c.eval_nodes.ensures

@@ -4,7 +4,8 @@ use Rattle.cfg_expr.proofs.evaluated.Read.{Reading-begins, Reading-next, Reading
 use Rattle.cfg_expr.proofs.expr.evaluating.eval_nodes.Goals as goal
 
 pub loop-place-init : goal.loop-place-init
-loop-place-init g c = Reading-begins g.T.Logic c.args.nodes.now c.args.slots.now _ c.requires refl refl
+loop-place-init g c = Reading-begins g.T.Logic c.args.nodes.now c.args.slots.now
+    _ c.requires refl refl
 
 pub loop-place-preserved : goal.loop-place-preserved
 loop-place-preserved g c =

@@ -1,12 +1,10 @@
 -- Each place names a predicate, and so a question.
 use Rattle.std.proofs.Common.{sym, ap, ◌∙◌, length}
-use Rattle.cfgx_parser.specs.nodes.Located.{question_at}
-use Rattle.cfg_expr.proofs.AskedPredicates.{length-named}
+use Rattle.cfg_expr.proofs.AskedPredicates.{length-asked}
 use Rattle.cfg_expr.proofs.expr.predicates.Predicates.left.Goals as goal
 
 pub returns : goal.returns
 returns c =
     let inside = c.self.inside in
-    sym (length-named (question_at inside.text.now) inside.text.now inside.nodes.now
-    inside.places.now c.self.invariant)
+    sym (length-asked inside.text.now inside.nodes.now inside.places.now c.self.invariant)
     ∙ ap length c.self.view_is
