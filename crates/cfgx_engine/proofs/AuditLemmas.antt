@@ -31,33 +31,33 @@ module _ {X V : Type 0} (Gives : X → V → Type 0) where
     AllZip-append Gives items others one.0 other.0 one.2 other.2,
   )
 
-  -- outputs for one piece more
-  pub AddsEach-piece : (pieces : List (List X)) (i : ℕ) (d : List X) (old middle new : List V)
-      → i < length pieces → AddsEach Gives (flat_map (λ piece. piece) (take i pieces)) old middle
-      → AddsEach Gives (get_or pieces i d) middle new
-      → AddsEach Gives (flat_map (λ piece. piece) (take (i + 1) pieces)) old new
-  AddsEach-piece pieces i d old middle new below one other =
-      let before = take i pieces in
-      let piece = get_or pieces i d in
-      rw (take_more pieces i d below, ← flat_map_more (λ piece. piece) [] before piece)
-      (AddsEach-append (flat_map (λ piece. piece) before) piece old middle new one other)
+  -- outputs for one batch more
+  pub AddsEach-batch : (batches : List (List X)) (i : ℕ) (d : List X) (old middle new : List V)
+      → i < length batches → AddsEach Gives (flat_map (λ batch. batch) (take i batches)) old middle
+      → AddsEach Gives (get_or batches i d) middle new
+      → AddsEach Gives (flat_map (λ batch. batch) (take (i + 1) batches)) old new
+  AddsEach-batch batches i d old middle new below one other =
+      let before = take i batches in
+      let batch = get_or batches i d in
+      rw (take_more batches i d below, ← flat_map_more (λ batch. batch) [] before batch)
+      (AddsEach-append (flat_map (λ batch. batch) before) batch old middle new one other)
 
--- the pieces with one more, and what is left behind it, are all items
-pub pieces-more : {X : Type 0} (pieces : List (List X)) (piece left others all : List X)
-    → flat_map (λ piece. piece) pieces ++ left ≡ all → left ≡ piece ++ others
-    → flat_map (λ piece. piece) (pieces ++ piece ∷ []) ++ others ≡ all
-pieces-more pieces piece left others all so_far split =
-    let before = flat_map (λ piece. piece) pieces in
-    rw (← flat_map_more (λ piece. piece) [] pieces piece)
-    (append_assoc before piece others ∙ ap (λ xs. before ++ xs) (sym split) ∙ so_far)
+-- the batches with one more, and what is left behind it, are all items
+pub batches-more : {X : Type 0} (batches : List (List X)) (batch left others all : List X)
+    → flat_map (λ batch. batch) batches ++ left ≡ all → left ≡ batch ++ others
+    → flat_map (λ batch. batch) (batches ++ batch ∷ []) ++ others ≡ all
+batches-more batches batch left others all so_far split =
+    let before = flat_map (λ batch. batch) batches in
+    rw (← flat_map_more (λ batch. batch) [] batches batch)
+    (append_assoc before batch others ∙ ap (λ xs. before ++ xs) (sym split) ∙ so_far)
 
--- the pieces are all items if nothing is left
-pub pieces-end : {X : Type 0} (pieces : List (List X)) (left all : List X) (is_empty : Bool)
-    → flat_map (λ piece. piece) pieces ++ left ≡ all → is_empty ≡ (length left == 0)
-    → is_empty ≡ true → flat_map (λ piece. piece) pieces ≡ all
-pieces-end pieces [] all is_empty so_far none holds =
-    sym (append-nil (flat_map (λ piece. piece) pieces)) ∙ so_far
-pieces-end pieces (x ∷ left) all is_empty so_far none holds = absurd (grind arith)
+-- the batches are all items if nothing is left
+pub batches-end : {X : Type 0} (batches : List (List X)) (left all : List X) (is_empty : Bool)
+    → flat_map (λ batch. batch) batches ++ left ≡ all → is_empty ≡ (length left == 0)
+    → is_empty ≡ true → flat_map (λ batch. batch) batches ≡ all
+batches-end batches [] all is_empty so_far none holds =
+    sym (append-nil (flat_map (λ batch. batch) batches)) ∙ so_far
+batches-end batches (x ∷ left) all is_empty so_far none holds = absurd (grind arith)
 
 -- a relation that follows from another
 pub AllZip-weaker : {X Y : Type 0} (R S : X → Y → Type 0) → ((x : X) (y : Y) → R x y → S x y)

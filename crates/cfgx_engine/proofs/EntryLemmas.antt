@@ -16,13 +16,14 @@ use Rattle.cfgx_syntax.specs.Kleene.{Planes, lane}
 use Rattle.cfgx_syntax.specs.Logic.{kleene_or}
 use Rattle.cfgx_grammar.specs.Question.{Question}
 use Rattle.cfgx_engine.specs.Facts.{IsNamed}
-use Rattle.cfgx_engine.specs.declared.resolve.parts.Parts.{Parts}
+use Rattle.cfg_expr.specs.declared.expr.asked_texts.AskedTexts.{AskedTexts}
 use Rattle.cfgx_engine.specs.internal.Index.{AreSorted, Entry}
 use Rattle.cfgx_engine.specs.internal.Index.{entry_codes}
 use Rattle.cfgx_engine.specs.internal.Index.{entry_told, is_among, paired, told}
-use Rattle.cfgx_engine.specs.internal.Names.{AreNames, Code, code, code_cmp, code_eq, code_of}
-use Rattle.cfgx_engine.specs.internal.Names.{spelled}
-use Rattle.cfgx_engine.proofs.NameLemmas.{IsNamed-spelled, code_total, equal_codes, found}
+use Rattle.cfg_expr.specs.Equality.{Code, code_cmp, code_eq, question_code, texts_code}
+use Rattle.cfgx_engine.specs.internal.Named.{AreNames}
+use Rattle.cfgx_engine.specs.internal.Named.{spelled}
+use Rattle.cfgx_engine.proofs.NamedLemmas.{IsNamed-spelled, code_total, equal_codes, found}
 
 -- Codes among others.
 
@@ -43,9 +44,9 @@ is_among-Contains names name = (
 
 -- a name is among codes exactly if a text that spells one of them names its question
 pub is_among-IsNamed : (names : List Code) (question : Question) → AreNames names
-    → (is_among names (code_of question) ≡ true) ↔ IsNamed (spelled names) question
+    → (is_among names (question_code question) ≡ true) ↔ IsNamed (spelled names) question
 is_among-IsNamed names question named =
-    let among = is_among-Contains names (code_of question) in
+    let among = is_among-Contains names (question_code question) in
     let spells = IsNamed-spelled names question named in
     (λ yes. spells.1 (among.0 yes), λ is. among.1 (spells.0 is))
 
@@ -85,21 +86,21 @@ told-append (entry ∷ one) other name i =
     (sym (or_assoc (entry_told entry name i) (told one name i) (told other name i)))
 
 -- an entry of another predicate tells false
-pub entry_told-other : (entry : Entry) (name : Code) (i : ℕ) → code entry.asked ≢ name
+pub entry_told-other : (entry : Entry) (name : Code) (i : ℕ) → texts_code entry.asked ≢ name
     → entry_told entry name i ≡ Some false
 entry_told-other entry name i apart =
-    one_of (code_eq (code entry.asked) name) (lane i entry.answers)
-    (λ same. apart (same_code (code entry.asked) name same))
+    one_of (code_eq (texts_code entry.asked) name) (lane i entry.answers)
+    (λ same. apart (same_code (texts_code entry.asked) name same))
   where
     one_of : (same : Bool) (answer : Option Bool) → (same ≡ true → ⊥)
         → (if same then answer else Some false) ≡ Some false
     one_of true answer apart = absurd (apart refl)
     one_of false answer apart = refl
 
-pub entry_told-same : (entry : Entry) (name : Code) (i : ℕ) → code entry.asked ≡ name
+pub entry_told-same : (entry : Entry) (name : Code) (i : ℕ) → texts_code entry.asked ≡ name
     → entry_told entry name i ≡ lane i entry.answers
 entry_told-same entry name i same =
-    rw ((pointwise_decides bytes_decides (code entry.asked) name).1 same) refl
+    rw ((pointwise_decides bytes_decides (texts_code entry.asked) name).1 same) refl
 
 -- codes that are less differ
 pub apart_if_less : (one other : Code) → code_cmp one other ≡ Less → one ≢ other
@@ -112,14 +113,14 @@ pub told_above : (entries : List Entry) (name : Code) (i : ℕ)
     → told entries name i ≡ Some false
 told_above [] name i above = refl
 told_above (entry ∷ entries) name i above =
-    let apart = apart_if_less name (code entry.asked) above.0 in
+    let apart = apart_if_less name (texts_code entry.asked) above.0 in
     rw (entry_told-other entry name i (λ same. apart (sym same)), told_above entries name i above.1)
     refl
 
 -- a code at some place of a list of which all is above another one
 pub above_at : (entries : List Entry) (k : ℕ) (d : Entry) (name : Code) → k < length entries
     → AllByRecursion (λ other. code_cmp name other ≡ Less) (entry_codes entries)
-    → code_cmp name (code (get_or entries k d).asked) ≡ Less
+    → code_cmp name (texts_code (get_or entries k d).asked) ≡ Less
 above_at [] k d name below above = absurd (omega arith)
 above_at (entry ∷ entries) zero d name below above = above.0
 above_at (entry ∷ entries) (suc k) d name below above =
@@ -127,12 +128,12 @@ above_at (entry ∷ entries) (suc k) d name below above =
 
 -- of sorted entries, that of a predicate tells what all tell
 pub told_at : (entries : List Entry) (k : ℕ) (d : Entry) (name : Code) (i : ℕ) → k < length entries
-    → AreSorted entries → code (get_or entries k d).asked ≡ name
+    → AreSorted entries → texts_code (get_or entries k d).asked ≡ name
     → told entries name i ≡ lane i (get_or entries k d).answers
 unfolding IsStrictlySortedBy
 told_at [] k d name i below sorted is = absurd (omega arith)
 told_at (entry ∷ entries) zero d name i below sorted is =
-    let here : code entry.asked ≡ name = is in
+    let here : texts_code entry.asked ≡ name = is in
     let above = subst (λ name. AllByRecursion (λ other. code_cmp name other ≡ Less)
     (entry_codes entries)) here sorted.0 in
     rw (
@@ -141,10 +142,10 @@ told_at (entry ∷ entries) zero d name i below sorted is =
       or_false (lane i entry.answers),
     ) refl
 told_at (entry ∷ entries) (suc k) d name i below sorted is =
-    let less = above_at entries k d (code entry.asked) (omega (arith, below)) sorted.0 in
-    let less' = subst (λ name. code_cmp (code entry.asked) name ≡ Less) is less in
+    let less = above_at entries k d (texts_code entry.asked) (omega (arith, below)) sorted.0 in
+    let less' = subst (λ name. code_cmp (texts_code entry.asked) name ≡ Less) is less in
     rw (
-      entry_told-other entry name i (apart_if_less (code entry.asked) name less'),
+      entry_told-other entry name i (apart_if_less (texts_code entry.asked) name less'),
       false_or (told entries name i),
     ) (told_at entries k d name i (omega (arith, below)) sorted.1 is)
 
@@ -166,8 +167,8 @@ unfolding IsStrictlySortedBy
 sorted_entries [] sorted k d above below = absurd (omega arith)
 sorted_entries (entry ∷ []) sorted k d above below = absurd (omega arith)
 sorted_entries (entry ∷ other ∷ entries) sorted zero d above below =
-    let name = code entry.asked in
-    let next = code other.asked in
+    let name = texts_code entry.asked in
+    let next = texts_code other.asked in
     let turned = code_total.antisymm next name in
     rw (turned, sorted.0.0) refl
 sorted_entries (entry ∷ other ∷ entries) sorted (suc k) d above below =
@@ -176,11 +177,11 @@ sorted_entries (entry ∷ other ∷ entries) sorted (suc k) d above below =
 
 -- Predicates and answers in pairs.
 
-pub paired-none : (names : List Parts) → paired names [] ≡ []
+pub paired-none : (names : List AskedTexts) → paired names [] ≡ []
 paired-none [] = refl
 paired-none (asked ∷ names) = refl
 
-pub paired-append : (names more : List Parts) (answers others : List Planes)
+pub paired-append : (names more : List AskedTexts) (answers others : List Planes)
     → length names ≡ length answers
     → paired (names ++ more) (answers ++ others) ≡ paired names answers ++ paired more others
 paired-append [] more [] others long = refl
@@ -189,33 +190,35 @@ paired-append (asked ∷ names) more [] others long = absurd (omega arith)
 paired-append (asked ∷ names) more (x ∷ answers) others long =
     rw (paired-append names more answers others (omega (arith, long))) refl
 
-pub paired-drop : (i : ℕ) (names : List Parts) (answers : List Planes)
+pub paired-drop : (i : ℕ) (names : List AskedTexts) (answers : List Planes)
     → drop i (paired names answers) ≡ paired (drop i names) (drop i answers)
 paired-drop zero names answers = refl
 paired-drop (suc i) [] answers = refl
 paired-drop (suc i) (asked ∷ names) [] = sym (paired-none (drop i names))
 paired-drop (suc i) (asked ∷ names) (x ∷ answers) = paired-drop i names answers
 
-pub paired-length : (names : List Parts) (answers : List Planes) → length names ≡ length answers
+pub paired-length : (names : List AskedTexts) (answers : List Planes)
+    → length names ≡ length answers
     → length (paired names answers) ≡ length names
 paired-length [] answers long = refl
 paired-length (asked ∷ names) [] long = absurd (omega arith)
 paired-length (asked ∷ names) (x ∷ answers) long =
     ap suc (paired-length names answers (omega (arith, long)))
 
-pub paired-codes : (names : List Parts) (answers : List Planes) → length names ≡ length answers
-    → entry_codes (paired names answers) ≡ map code names
+pub paired-codes : (names : List AskedTexts) (answers : List Planes) → length names ≡ length answers
+    → entry_codes (paired names answers) ≡ map texts_code names
 paired-codes [] answers long = refl
 paired-codes (asked ∷ names) [] long = absurd (omega arith)
 paired-codes (asked ∷ names) (x ∷ answers) long =
     rw (paired-codes names answers (omega (arith, long))) refl
 
 -- some predicate, if there is one
-pub item : (names : List Parts) (i : ℕ) → i < length names → Parts
+pub item : (names : List AskedTexts) (i : ℕ) → i < length names → AskedTexts
 item [] i below = absurd (omega arith)
 item (asked ∷ names) i below = asked
 
-pub paired-get : (names : List Parts) (answers : List Planes) (i : ℕ) (asked : Parts) (x : Planes)
+pub paired-get : (names : List AskedTexts) (answers : List Planes) (i : ℕ)
+    (asked : AskedTexts) (x : Planes)
     → length names ≡ length answers → i < length names
     → get_or (paired names answers) i (record { asked = asked; answers = x })
     ≡ record { asked = get_or names i asked; answers = get_or answers i x }
@@ -226,7 +229,8 @@ paired-get (one ∷ names) (y ∷ answers) (suc i) asked x long below =
     paired-get names answers i asked x (omega (arith, long)) (omega (arith, below))
 
 -- what is left of pairs begins with the next predicate and its answers
-pub paired-next : (names : List Parts) (answers : List Planes) (i : ℕ) (asked : Parts) (x : Planes)
+pub paired-next : (names : List AskedTexts) (answers : List Planes) (i : ℕ)
+    (asked : AskedTexts) (x : Planes)
     → length names ≡ length answers → i < length names → asked ≡ get_or names i asked
     → x ≡ get_or answers i x
     → drop i (paired names answers)
@@ -241,10 +245,10 @@ paired-next names answers i asked x long below is is' =
       ← is',
     ) refl
 
-module _ (names : List Parts) (answers : List Planes) (asked : Code)
+module _ (names : List AskedTexts) (answers : List Planes) (asked : Code)
     (long : length names ≡ length answers) (sorted : AreSorted (paired names answers)) where
   pub told_found : (k : ℕ) (x : Planes) → IsSearchInRange (Ok k) (length names)
-      → IsBinarySearchResult (λ (name : Parts). code_cmp (code name) asked) names (Ok k)
+      → IsBinarySearchResult (λ (name : AskedTexts). code_cmp (texts_code name) asked) names (Ok k)
       → x ≡ get_or answers k x → (i : ℕ) → lane i x ≡ told (paired names answers) asked i
   told_found k x in_range equal is i =
       let any = item names k in_range in
@@ -252,17 +256,17 @@ module _ (names : List Parts) (answers : List Planes) (asked : Code)
       let here = paired-get names answers k any x long in_range in
       let below : k < length (paired names answers) = rw (paired-length names answers long) in_range
       in
-      let same = ap (λ (entry : Entry). code entry.asked) here
-      ∙ equal_codes (code (get_or names k any)) asked (equal any) in
+      let same = ap (λ (entry : Entry). texts_code entry.asked) here
+      ∙ equal_codes (texts_code (get_or names k any)) asked (equal any) in
       sym (told_at (paired names answers) k d asked i below sorted same
       ∙ ap (λ (entry : Entry). lane i entry.answers) here ∙ ap (lane i) (sym is))
 
   pub told_missed : (k : ℕ) → IsSearchInRange (Err k) (length names)
-      → IsBinarySearchResult (λ (name : Parts). code_cmp (code name) asked) names (Err k)
+      → IsBinarySearchResult (λ (name : AskedTexts). code_cmp (texts_code name) asked) names (Err k)
       → (i : ℕ) → Some false ≡ told (paired names answers) asked i
   told_missed k in_range parted i =
       let codes = paired-codes names answers long in
-      let finds = found code names asked (Err k) in_range parted
+      let finds = found texts_code names asked (Err k) in_range parted
       (rw codes at (sorted_entries (paired names answers) sorted)) in
       sym (told_none (paired names answers) asked i
       (λ contains. absurd (cc (finds.1 (rw codes at contains)))))

@@ -25,10 +25,11 @@ use Rattle.cfgx_engine.specs.declared.resolve.facts.UnaskableFacts.{UnaskableFac
 use Rattle.cfgx_engine.specs.declared.resolve.facts.UnaskableFacts.TheVariants as unaskable_facts
 use Rattle.cfgx_engine.specs.internal.ReadsFacts.{AddsFact, AddsText, IsText, accepts, error_at}
 use Rattle.cfgx_engine.specs.internal.ReadsFacts.{joined}
-use Rattle.cfgx_engine.specs.internal.Names.{AreNames, Code, IsName, code_of, facts_in}
-use Rattle.cfgx_engine.specs.internal.Names.{spelled}
-use Rattle.cfgx_engine.proofs.NameLemmas.{AreNames-append, Contains-codes, IsNamed-spelled}
-use Rattle.cfgx_engine.proofs.NameLemmas.{only_item}
+use Rattle.cfg_expr.specs.Equality.{Code, question_code}
+use Rattle.cfgx_engine.specs.internal.Named.{AreNames, IsName, facts_in}
+use Rattle.cfgx_engine.specs.internal.Named.{spelled}
+use Rattle.cfgx_engine.proofs.NamedLemmas.{AreNames-append, Contains-codes, IsNamed-spelled}
+use Rattle.cfgx_engine.proofs.NamedLemmas.{only_item}
 use Rattle.std.specs.List.{Contains}
 use Rattle.std.specs.List.Sorted.{IsPermutation}
 use Rattle.std.proofs.lemmas.List.Sorted.{All-permutation, Contains-permutation, IsPermutation-sym}
@@ -107,7 +108,7 @@ IsNamed-same texts question = rw append-nil (λ named. named, λ named. named)
 -- the codes of a text tell what it names
 Names-codes : (unaskable : UnaskableFacts) (text : List ℕ) (added : List Code)
     → IsText unaskable text added → (question : Question)
-    → Names text question ↔ Contains added (code_of question)
+    → Names text question ↔ Contains added (question_code question)
 Names-codes unaskable text added (inl (questions, asks, is)) question =
     let codes = Contains-codes questions question in
     rw is (

@@ -24,15 +24,16 @@ use Rattle.cfgx_grammar.specs.Question.{Question}
 use Rattle.cfgx_engine.specs.Facts.{FactTexts, IsAnswer, IsNamed, unnamed_answer}
 use Rattle.cfgx_engine.specs.declared.resolve.facts.Otherwise.{Otherwise}
 use Rattle.cfgx_engine.specs.declared.resolve.facts.Otherwise.TheVariants as otherwise
-use Rattle.cfgx_engine.specs.declared.resolve.parts.Parts.{Parts}
+use Rattle.cfg_expr.specs.declared.expr.asked_texts.AskedTexts.{AskedTexts}
 use Rattle.cfgx_engine.specs.internal.InLanes.{InLanes}
 use Rattle.cfgx_engine.specs.internal.Index.{AreSorted, EndsWith, Entry, Joins}
 use Rattle.cfgx_engine.specs.internal.Index.{TellsEach, TellsTarget, TellsTargets}
 use Rattle.cfgx_engine.specs.internal.Index.{is_among, one_lane, paired, told}
-use Rattle.cfgx_engine.specs.internal.Names.{AreNames, Code, code, code_cmp, code_eq, code_of}
-use Rattle.cfgx_engine.specs.internal.Names.{facts_in}
+use Rattle.cfg_expr.specs.Equality.{Code, code_cmp, code_eq, question_code, texts_code}
+use Rattle.cfgx_engine.specs.internal.Named.{AreNames}
+use Rattle.cfgx_engine.specs.internal.Named.{facts_in}
 use Rattle.cfgx_engine.proofs.FactLemmas.{true_and_false}
-use Rattle.cfgx_engine.proofs.NameLemmas.{code_total, equal_codes, found}
+use Rattle.cfgx_engine.proofs.NamedLemmas.{code_total, equal_codes, found}
 use Rattle.cfgx_engine.proofs.EntryLemmas.{false_or, is_among-Contains, is_among-IsNamed}
 use Rattle.cfgx_engine.proofs.EntryLemmas.{or_false, or_self, or_true, paired-append, paired-codes}
 use Rattle.cfgx_engine.proofs.EntryLemmas.{same_code, told-append}
@@ -53,7 +54,7 @@ sorted_push (one ∷ before) last name less sorted =
     )
 
 -- the predicates and answers of names, which are sorted
-pub record Lists (names : List Code) (answers : ℕ → Option Bool) (parts : List Parts)
+pub record Lists (names : List Code) (answers : ℕ → Option Bool) (parts : List AskedTexts)
     (planes : List Planes) : Type 0 where
   pub as_many : length parts ≡ length planes
   pub sorted : AreSorted (paired parts planes)
@@ -84,16 +85,16 @@ rising one other not_less apart =
     turned Greater other is apart not_less = is
 
 -- predicates that end with a code end with one of this code
-ends_split : (names : List Parts) (name : Code) → EndsWith names name
-    → (before : List Parts) × (last : Parts) × (names ≡ before ++ last ∷ [])
-    × (code last ≡ name)
+ends_split : (names : List AskedTexts) (name : Code) → EndsWith names name
+    → (before : List AskedTexts) × (last : AskedTexts) × (names ≡ before ++ last ∷ [])
+    × (texts_code last ≡ name)
 ends_split names name ends =
     of_item (slice_get names (length names - 1)) refl ends
   where
-    of_item : (item : Option Parts) → slice_get names (length names - 1) ≡ item
-        → option_map code item ≡ Some name
-        → (before : List Parts) × (last : Parts) × (names ≡ before ++ last ∷ [])
-        × (code last ≡ name)
+    of_item : (item : Option AskedTexts) → slice_get names (length names - 1) ≡ item
+        → option_map texts_code item ≡ Some name
+        → (before : List AskedTexts) × (last : AskedTexts) × (names ≡ before ++ last ∷ [])
+        × (texts_code last ≡ name)
     of_item None is ends = absurd cc
     of_item (Some last) is ends =
         let k = length names - 1 in
@@ -103,11 +104,12 @@ ends_split names name ends =
           sym (take_all (k + 1) names (omega (arith, below))) ∙ take_more names k last below
               ∙ ap (λ item. take k names ++ item ∷ [])
               (get_or_from_slice_get names k last last is),
-          same_Some (code last) name ends,
+          same_Some (texts_code last) name ends,
         )
 
 -- a list that is pushed to ends with what was pushed
-ends_pushed : (names : List Parts) (asked : Parts) → EndsWith (names ++ asked ∷ []) (code asked)
+ends_pushed : (names : List AskedTexts) (asked : AskedTexts)
+    → EndsWith (names ++ asked ∷ []) (texts_code asked)
 ends_pushed names asked =
     let long = length-append names (asked ∷ []) in
     let here : length (names ++ asked ∷ []) - 1 ≡ length names = omega (arith, long) in
@@ -119,16 +121,16 @@ equal_order Equal is = refl
 equal_order Greater is = absurd cc
 
 -- the last predicate has a code exactly if it compares as equal
-pub ends_when : (names : List Parts) (last : Parts) (name : Code) (answer : Bool)
+pub ends_when : (names : List AskedTexts) (last : AskedTexts) (name : Code) (answer : Bool)
     → Some last ≡ slice_get names (length names - 1)
-    → answer ≡ is_eq (code_cmp (code last) name) → (answer ≡ true) ↔ EndsWith names name
+    → answer ≡ is_eq (code_cmp (texts_code last) name) → (answer ≡ true) ↔ EndsWith names name
 ends_when names last name answer is equal = (
   λ yes.
-      let same = equal_codes (code last) name (equal_order _ (sym equal ∙ yes)) in
+      let same = equal_codes (texts_code last) name (equal_order _ (sym equal ∙ yes)) in
       rw (← is) (ap Some same),
   λ ends.
-      let ends' : Some (code last) ≡ Some name = rw (← is) at ends in
-      let same = same_Some (code last) name ends' in
+      let ends' : Some (texts_code last) ≡ Some name = rw (← is) at ends in
+      let same = same_Some (texts_code last) name ends' in
       equal ∙ ap (λ one. is_eq (code_cmp one name)) same ∙ ap is_eq (tied_itself code_total name),
 )
 
@@ -153,7 +155,7 @@ told_again false true told answer known is = absurd (cc (known refl))
 told_again false false told answer known is = is
 
 -- one name more of sorted ones: it is pushed, or it was the last one too
-module _ (names : List Code) (asked : Code) (answers : ℕ → Option Bool) (parts : List Parts)
+module _ (names : List Code) (asked : Code) (answers : ℕ → Option Bool) (parts : List AskedTexts)
     (planes : List Planes) (lists : Lists names answers parts planes) where
   now_last : get_or (names ++ asked ∷ []) (length (names ++ asked ∷ []) - 1) [] ≡ asked
   now_last =
@@ -163,18 +165,18 @@ module _ (names : List Code) (asked : Code) (answers : ℕ → Option Bool) (par
   now_some : 0 < length (names ++ asked ∷ [])
   now_some = let long = length-append names (asked ∷ []) in omega (arith, long)
 
-  codes_sorted : IsStrictlySortedBy code_cmp (map code parts)
+  codes_sorted : IsStrictlySortedBy code_cmp (map texts_code parts)
   codes_sorted = rw (paired-codes parts planes lists.as_many) at lists.sorted
 
-  longer : (part : Parts) (plane : Planes)
+  longer : (part : AskedTexts) (plane : Planes)
       → length (parts ++ part ∷ []) ≡ length (planes ++ plane ∷ [])
   longer part plane =
       let long = length-append parts (part ∷ []) in
       let long' = length-append planes (plane ∷ []) in omega (arith, long, long', lists.as_many)
 
-  pushed_sorted : (part : Parts) → code part ≡ asked → (EndsWith parts asked → ⊥)
+  pushed_sorted : (part : AskedTexts) → texts_code part ≡ asked → (EndsWith parts asked → ⊥)
       → (0 < length names → is_lt (code_cmp asked (get_or names (length names - 1) [])) ≡ false)
-      → IsStrictlySortedBy code_cmp (map code (parts ++ part ∷ []))
+      → IsStrictlySortedBy code_cmp (map texts_code (parts ++ part ∷ []))
   unfolding IsStrictlySortedBy
   pushed_sorted part same apart order =
       ⊎_elim (λ none. rw none (tt, tt)) (λ (some, ends).
@@ -182,10 +184,10 @@ module _ (names : List Code) (asked : Code) (answers : ℕ → Option Bool) (par
       let less = rising (get_or names (length names - 1) []) asked (order some)
       (λ same'. apart (rw same' at ends)) in
       rw (is, map-append, map-append, same)
-      (sorted_push (map code before) (code last) asked (rw (← name) at less)
+      (sorted_push (map texts_code before) (texts_code last) asked (rw (← name) at less)
       (rw (is, map-append) at codes_sorted))) lists.last
 
-  told_one : (part : Parts) (plane : Planes) → code part ≡ asked
+  told_one : (part : AskedTexts) (plane : Planes) → texts_code part ≡ asked
       → ((i : ℕ) → lane i plane ≡ answers i) → (name : Code) (i : ℕ)
       → told (paired (part ∷ []) (plane ∷ [])) name i
       ≡ kleene_or (if code_eq asked name then answers i else Some false) (Some false)
@@ -194,7 +196,7 @@ module _ (names : List Code) (asked : Code) (answers : ℕ → Option Bool) (par
       same
       ∙ ap (λ x. kleene_or (if code_eq asked name then x else Some false) (Some false)) (lanes i)
 
-  Lists-push : (part : Parts) (plane : Planes) → code part ≡ asked
+  Lists-push : (part : AskedTexts) (plane : Planes) → texts_code part ≡ asked
       → ((i : ℕ) → lane i plane ≡ answers i) → (EndsWith parts asked → ⊥)
       → (0 < length names → is_lt (code_cmp asked (get_or names (length names - 1) [])) ≡ false)
       → Lists (names ++ asked ∷ []) answers (parts ++ part ∷ []) (planes ++ plane ∷ [])
@@ -238,7 +240,8 @@ module _ (names : List Code) (asked : Code) (answers : ℕ → Option Bool) (par
   }
 
 -- one step of a loop over all of sorted names
-module _ (all : List Code) (k : ℕ) (asked : Code) (answers : ℕ → Option Bool) (parts : List Parts)
+module _ (all : List Code) (k : ℕ) (asked : Code) (answers : ℕ → Option Bool)
+    (parts : List AskedTexts)
     (planes : List Planes) (below : k < length all) (asked_is : asked ≡ get_or all k [])
     (lists : Lists (take k all) answers parts planes) where
   taken : take (k + 1) all ≡ take k all ++ asked ∷ []
@@ -252,7 +255,8 @@ module _ (all : List Code) (k : ℕ) (asked : Code) (answers : ℕ → Option Bo
       rw (long, get_or-take k all (k - 1) [] (omega (arith, long, some)), asked_is)
       (rw here at (sorted (k - 1) [] (omega arith) (omega (arith, below, long, some))))
 
-  pub Lists-pushed : IsSorted code_cmp all → (part : Parts) (plane : Planes) → code part ≡ asked
+  pub Lists-pushed : IsSorted code_cmp all → (part : AskedTexts) (plane : Planes)
+      → texts_code part ≡ asked
       → ((i : ℕ) → lane i plane ≡ answers i) → (EndsWith parts asked → ⊥)
       → Lists (take (k + 1) all) answers (parts ++ part ∷ []) (planes ++ plane ∷ [])
   Lists-pushed sorted part plane same lanes apart =
@@ -341,7 +345,7 @@ pub TellsTarget-both : (true_names unknown_names : List Code) (n : ℕ)
 TellsTarget-both true_names unknown_names n as_true as_unknown true_ones unknown_ones both within
     named named' lanes lanes' tells tells' joins = record {
       here = λ question.
-          let name = code_of question in
+          let name = question_code question in
           let one = rw (lanes n within ∙ one_lane-here n (Some true)) at (tells name n within) in
           let two = rw (lanes' n within ∙ one_lane-here n None) at (tells' name n within) in
           IsAnswer-named (facts_in true_names unknown_names) question (is_among true_names name)
@@ -351,7 +355,7 @@ TellsTarget-both true_names unknown_names n as_true as_unknown true_ones unknown
           (named_answer (is_among true_names name) (is_among unknown_names name)
           (told both name n) (rw (one, two) at (joins name n within)));
       others = λ question i below apart.
-          let name = code_of question in
+          let name = question_code question in
           let one = rw (lanes i below ∙ one_lane-other n (Some true) i apart)
           at (tells name i below) in
           let two = rw (lanes' i below ∙ one_lane-other n None i apart) at (tells' name i below) in
@@ -399,7 +403,7 @@ pub TellsTargets-both : (front back : List FactTexts) (first second : ℕ)
     → Joins one other both → TellsTargets (front ++ back) first both
 TellsTargets-both front back first second one other both at few tells tells' joins = record {
   answers = λ i target is question.
-      let name = code_of question in
+      let name = question_code question in
       let long = length-append front back in
       let inside = slice_get_within (front ++ back) i target is in
       let below : first + i < 64 = omega (arith, few, long, inside, at) in ⊎_elim
@@ -419,7 +423,7 @@ TellsTargets-both front back first second one other both at few tells tells' joi
       ) (tells'.answers (i - length front) target (sym (slice_get-append-add front back
       (i - length front) i (omega (arith, past))) ∙ is) question)) (cases_lt i (length front));
   others = λ i outside below question.
-      let name = code_of question in
+      let name = question_code question in
       let long = length-append front back in
       rw (
         joins name i below,
@@ -450,7 +454,7 @@ IsAnswer-otherwise facts given question answer = ⊎_elim
 -- the lanes of what is told, joined to the answer to a predicate that no fact names
 pub InLanes-told : (targets : List FactTexts) (entries : List Entry) (given : Otherwise)
     (question : Question) (name : Code) (unnamed : Option Bool) (found others joined : Planes)
-    → length targets ≤ 64 → TellsTargets targets 0 entries → name ≡ code_of question
+    → length targets ≤ 64 → TellsTargets targets 0 entries → name ≡ question_code question
     → unnamed ≡ unnamed_answer given question → EachLane found (told entries name)
     → EachLane others (λ i. unnamed)
     → EachLane joined (λ i. kleene_or (lane i found) (lane i others))
@@ -460,5 +464,5 @@ InLanes-told targets entries given question name unnamed found others joined few
     let below : i < 64 = omega (arith, slice_get_within targets i target is) in
     let here : 0 + i ≡ i = omega arith in
     rw (lanes i below, lanes_found i below, lanes_others i below, is_unnamed, same)
-    (IsAnswer-otherwise target given question (told entries (code_of question) i)
+    (IsAnswer-otherwise target given question (told entries (question_code question) i)
     (rw here at (tells.answers i target is question)))

@@ -3,7 +3,7 @@ pub mod EntryLemmas
 pub mod FactLemmas
 pub mod IndexLemmas
 pub mod MergeLemmas
-pub mod NameLemmas
+pub mod NamedLemmas
 pub mod OneOutput
 pub mod OutputLemmas
 pub mod PickLemmas

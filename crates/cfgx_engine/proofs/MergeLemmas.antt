@@ -13,12 +13,12 @@ use Rattle.std.specs.declared.cmp.Ordering.{Ordering}
 use Rattle.std.specs.declared.cmp.Ordering.TheVariants.{Less, Equal, Greater}
 use Rattle.cfgx_syntax.specs.Kleene.{EachLane, Planes, lane}
 use Rattle.cfgx_syntax.specs.Logic.{kleene_or}
-use Rattle.cfgx_engine.specs.declared.resolve.parts.Parts.{Parts}
+use Rattle.cfg_expr.specs.declared.expr.asked_texts.AskedTexts.{AskedTexts}
 use Rattle.cfgx_engine.specs.internal.Index.{AreNextAnswers, AreSorted, Entry, Joins}
 use Rattle.cfgx_engine.specs.internal.Index.{entry_codes}
 use Rattle.cfgx_engine.specs.internal.Index.{entry_told, paired, told}
-use Rattle.cfgx_engine.specs.internal.Names.{Code, code, code_cmp, code_eq}
-use Rattle.cfgx_engine.proofs.NameLemmas.{code_total, equal_codes}
+use Rattle.cfg_expr.specs.Equality.{Code, code_cmp, code_eq, texts_code}
+use Rattle.cfgx_engine.proofs.NamedLemmas.{code_total, equal_codes}
 use Rattle.cfgx_engine.proofs.EntryLemmas.{false_or, or_assoc, or_comm, or_false, paired-append}
 use Rattle.cfgx_engine.proofs.EntryLemmas.{paired-drop, paired-length, paired-next, told-append}
 
@@ -76,19 +76,20 @@ sorted_between (name ∷ done) front back one other less sorted sorted' = (
 module _ (done front back : List Entry) (one other next : Entry) where
   codes_split : (more : List Entry)
       → entry_codes ((done ++ next ∷ []) ++ more)
-      ≡ (entry_codes done ++ code next.asked ∷ []) ++ entry_codes more
+      ≡ (entry_codes done ++ texts_code next.asked ∷ []) ++ entry_codes more
   codes_split more = simp map-append
 
-  next_less : code_cmp (code one.asked) (code other.asked) ≡ Less → next ≡ one
+  next_less : code_cmp (texts_code one.asked) (texts_code other.asked) ≡ Less → next ≡ one
       → AreSorted (done ++ one ∷ front) → AreSorted (done ++ other ∷ back)
       → AreSorted ((done ++ next ∷ []) ++ other ∷ back)
   next_less less is sorted sorted' =
       rw (codes_split (other ∷ back), is)
-      (sorted_between (entry_codes done) (entry_codes front) (entry_codes back) (code one.asked)
-      (code other.asked) less (rw map-append at sorted) (rw map-append at sorted'))
+      (sorted_between (entry_codes done) (entry_codes front) (entry_codes back)
+      (texts_code one.asked)
+      (texts_code other.asked) less (rw map-append at sorted) (rw map-append at sorted'))
 
   -- an entry that has the code of the one that it replaces
-  next_same : code next.asked ≡ code one.asked → AreSorted (done ++ one ∷ front)
+  next_same : texts_code next.asked ≡ texts_code one.asked → AreSorted (done ++ one ∷ front)
       → AreSorted ((done ++ next ∷ []) ++ front)
   next_same same sorted =
       rw (codes_split front, same, append_assoc) (rw map-append at sorted)
@@ -123,12 +124,12 @@ joined_equal d f a g b h is =
     ) refl
 
 entry_told-joined : (one other next : Entry) (name : Code) (i : ℕ)
-    → code next.asked ≡ code one.asked → code one.asked ≡ code other.asked
+    → texts_code next.asked ≡ texts_code one.asked → texts_code one.asked ≡ texts_code other.asked
     → lane i next.answers ≡ kleene_or (lane i one.answers) (lane i other.answers)
     → entry_told next name i ≡ kleene_or (entry_told one name i) (entry_told other name i)
 entry_told-joined one other next name i same same' is =
-    both (code_eq (code next.asked) name) (code_eq (code one.asked) name)
-    (code_eq (code other.asked) name) (lane i next.answers) (lane i one.answers)
+    both (code_eq (texts_code next.asked) name) (code_eq (texts_code one.asked) name)
+    (code_eq (texts_code other.asked) name) (lane i next.answers) (lane i one.answers)
     (lane i other.answers) (ap (λ asked. code_eq asked name) same)
     (ap (λ asked. code_eq asked name) same') is
   where
@@ -146,7 +147,8 @@ entry_told-joined one other next name i same same' is =
 same_entry : (one other : Entry) → one.asked ≡ other.asked → one.answers ≡ other.answers
     → one ≡ other
 same_entry one other asked answers =
-    ap (λ (asked : Parts). let entry : Entry = record { asked = asked; answers = one.answers } in
+    ap (λ (asked : AskedTexts).
+    let entry : Entry = record { asked = asked; answers = one.answers } in
     entry) asked
     ∙ ap (λ (answers : Planes). let entry : Entry = record {
       asked = other.asked;
@@ -170,13 +172,13 @@ module _ (one other done : List Entry) (i j : ℕ) (first second next : Entry)
       (kleene_or (entry_told second name lane) (told (drop (j + 1) other) name lane)))
   so_far name lane fits = rw (front, back) at (merges.joined name lane fits)
 
-  Merges-less : code_cmp (code first.asked) (code second.asked) ≡ Less → next ≡ first
+  Merges-less : code_cmp (texts_code first.asked) (texts_code second.asked) ≡ Less → next ≡ first
       → Merges one other (done ++ next ∷ []) (i + 1) j
   Merges-less less is = record {
     one_inside = omega (arith, below);
     other_inside = omega (arith, below');
     one_sorted = next_same done (drop (i + 1) one) (drop j other) first second next
-        (ap (λ (entry : Entry). code entry.asked) is) (rw front at merges.one_sorted);
+        (ap (λ (entry : Entry). texts_code entry.asked) is) (rw front at merges.one_sorted);
     other_sorted = rw back (next_less done (drop (i + 1) one) (drop (j + 1) other) first second
         next less is (rw front at merges.one_sorted) (rw back at merges.other_sorted));
     joined = λ name lane fits.
@@ -189,18 +191,19 @@ module _ (one other done : List Entry) (i j : ℕ) (first second next : Entry)
         ∙ joined_less (told done name lane) (entry_told next name lane) front_told back_told);
   }
 
-  Merges-greater : code_cmp (code first.asked) (code second.asked) ≡ Greater → next ≡ second
+  Merges-greater : code_cmp (texts_code first.asked) (texts_code second.asked)
+      ≡ Greater → next ≡ second
       → Merges one other (done ++ next ∷ []) i (j + 1)
   Merges-greater greater is =
-      let turned = code_total.antisymm (code second.asked) (code first.asked) in
-      let less : code_cmp (code second.asked) (code first.asked) ≡ Less =
+      let turned = code_total.antisymm (texts_code second.asked) (texts_code first.asked) in
+      let less : code_cmp (texts_code second.asked) (texts_code first.asked) ≡ Less =
       turned ∙ ap ordering_reverse greater in record {
         one_inside = omega (arith, below);
         other_inside = omega (arith, below');
         one_sorted = rw front (next_less done (drop (j + 1) other) (drop (i + 1) one) second first
             next less is (rw back at merges.other_sorted) (rw front at merges.one_sorted));
         other_sorted = next_same done (drop (j + 1) other) (drop i one) second first next
-            (ap (λ (entry : Entry). code entry.asked) is) (rw back at merges.other_sorted);
+            (ap (λ (entry : Entry). texts_code entry.asked) is) (rw back at merges.other_sorted);
         joined = λ name lane fits.
             let front_told =
             kleene_or (entry_told first name lane) (told (drop (i + 1) one) name lane) in
@@ -213,13 +216,13 @@ module _ (one other done : List Entry) (i j : ℕ) (first second next : Entry)
             back_told);
       }
 
-  Merges-equal : code_cmp (code first.asked) (code second.asked) ≡ Equal
+  Merges-equal : code_cmp (texts_code first.asked) (texts_code second.asked) ≡ Equal
       → next.asked ≡ first.asked
       → EachLane next.answers (λ i. kleene_or (lane i first.answers) (lane i second.answers))
       → Merges one other (done ++ next ∷ []) (i + 1) (j + 1)
   Merges-equal equal asked lanes =
-      let same = ap (λ asked. code asked) asked in
-      let same' = equal_codes (code first.asked) (code second.asked) equal in record {
+      let same = ap (λ asked. texts_code asked) asked in
+      let same' = equal_codes (texts_code first.asked) (texts_code second.asked) equal in record {
         one_inside = omega (arith, below);
         other_inside = omega (arith, below');
         one_sorted = next_same done (drop (i + 1) one) (drop j other) first second next same
@@ -235,7 +238,7 @@ module _ (one other done : List Entry) (i j : ℕ) (first second next : Entry)
       }
 
   Merges-next : (order : Ordering) (i' j' : ℕ)
-      → order ≡ code_cmp (code first.asked) (code second.asked)
+      → order ≡ code_cmp (texts_code first.asked) (texts_code second.asked)
       → next.asked ≡ (if is_le order then first.asked else second.asked)
       → AreNextAnswers order first.answers second.answers next.answers
       → i' ≡ i + (if is_le order then 1 else 0) → j' ≡ j + (if is_ge order then 1 else 0)
@@ -267,14 +270,14 @@ module _ (one other done : List Entry) (i j : ℕ) (merges : Merges one other do
       ) (sym (merges.joined name lane fits))
 
 -- one step of the loop that merges
-module _ (names others done : List Parts) (xs ys zs : List Planes) (i j : ℕ)
+module _ (names others done : List AskedTexts) (xs ys zs : List Planes) (i j : ℕ)
     (long : length names ≡ length xs) (long' : length others ≡ length ys)
     (merges : (length done ≡ length zs)
     × Merges (paired names xs) (paired others ys) (paired done zs) i j) where
-  pub Merges-step : (first second next : Parts) (x y z : Planes) (order : Ordering) (i' j' : ℕ)
+  pub Merges-step : (first second next : AskedTexts) (x y z : Planes) (order : Ordering) (i' j' : ℕ)
       → i < length names → j < length others → first ≡ get_or names i first
       → second ≡ get_or others j second → x ≡ get_or xs i x → y ≡ get_or ys j y
-      → order ≡ code_cmp (code first) (code second)
+      → order ≡ code_cmp (texts_code first) (texts_code second)
       → next ≡ (if is_le order then first else second) → AreNextAnswers order x y z
       → i' ≡ i + (if is_le order then 1 else 0) → j' ≡ j + (if is_ge order then 1 else 0)
       → (length (done ++ next ∷ []) ≡ length (zs ++ z ∷ []))

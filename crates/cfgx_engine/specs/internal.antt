@@ -2,7 +2,7 @@
 pub mod AddsLine
 pub mod InLanes
 pub mod Index
-pub mod Names
+pub mod Named
 pub mod ReadsFacts
 pub mod ReadsMore
 pub mod Shows

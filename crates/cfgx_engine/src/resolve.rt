@@ -15,8 +15,7 @@ mod auditing;
 mod by_facts;
 mod facts;
 mod index;
-mod names;
-mod parts;
+mod named;
 
 use auditing::push_values;
 pub use by_facts::{AuditError, audit_facts};
@@ -231,8 +230,8 @@ pub fn pick<A: SmallAllocator, M: TargetMatcher>(
 /// Returns the verdict on a condition for each target, in order. It is the verdict of `pick` on a
 /// section with this condition.
 ///
-/// Targets are taken in pieces of 64. Each predicate on the target is asked once of each, and the
-/// condition is evaluated once for each piece.
+/// Targets are taken in batches of 64. Each predicate on the target is asked once of each, and the
+/// condition is evaluated once for each batch.
 ///
 /// # Errors
 ///

@@ -10,16 +10,16 @@ use Rattle.cfgx_syntax.specs.Logic.{kleene_or}
 use Rattle.cfgx_grammar.specs.Question.{Question}
 use Rattle.cfgx_engine.specs.Facts.{FactTexts, IsAnswer}
 use Rattle.cfgx_engine.specs.declared.resolve.facts.Otherwise.TheVariants as otherwise
-use Rattle.cfgx_engine.specs.declared.resolve.parts.Parts.{Parts}
-use Rattle.cfgx_engine.specs.internal.Names.{Code, code, code_cmp, code_eq, code_of}
+use Rattle.cfg_expr.specs.declared.expr.asked_texts.AskedTexts.{AskedTexts}
+use Rattle.cfg_expr.specs.Equality.{Code, code_cmp, code_eq, question_code, texts_code}
 
 -- a predicate that facts name, and the answers of the targets to it
 pub record Entry : Type 0 where
-  pub asked : Parts
+  pub asked : AskedTexts
   pub answers : Planes
 
 -- the entries of predicates and of the answers to them, in order
-abbrev pub paired : List Parts → List Planes → List Entry
+abbrev pub paired : List AskedTexts → List Planes → List Entry
 paired [] answers = []
 paired (asked ∷ names) [] = []
 paired (asked ∷ names) (answers ∷ others) =
@@ -27,7 +27,7 @@ paired (asked ∷ names) (answers ∷ others) =
 
 -- the codes of the predicates of entries
 abbrev pub entry_codes : List Entry → List Code
-entry_codes entries = map (λ (entry : Entry). code entry.asked) entries
+entry_codes entries = map (λ (entry : Entry). texts_code entry.asked) entries
 
 -- each entry is below those behind it, so no predicate has two
 abbrev pub AreSorted : List Entry → Type 0
@@ -37,7 +37,7 @@ AreSorted entries = IsStrictlySortedBy code_cmp (entry_codes entries)
 -- another one
 abbrev pub entry_told : Entry → Code → ℕ → Option Bool
 entry_told entry name i =
-    if code_eq (code entry.asked) name then lane i entry.answers else Some false
+    if code_eq (texts_code entry.asked) name then lane i entry.answers else Some false
 
 -- the answer that entries tell
 abbrev pub told : List Entry → Code → ℕ → Option Bool
@@ -50,8 +50,8 @@ Joins one other both = (name : Code) (i : ℕ) → i < 64
     → told both name i ≡ kleene_or (told one name i) (told other name i)
 
 -- the last predicate has this code
-abbrev pub EndsWith : List Parts → Code → Type 0
-EndsWith names name = option_map code (slice_get names (length names - 1)) ≡ Some name
+abbrev pub EndsWith : List AskedTexts → Code → Type 0
+EndsWith names name = option_map texts_code (slice_get names (length names - 1)) ≡ Some name
 
 -- the answers to the lesser of two predicates, or those to both, joined, if they are equal
 abbrev pub AreNextAnswers : Ordering → Planes → Planes → Planes → Type 0
@@ -77,15 +77,16 @@ one_lane (suc n) answer = behind (Some false) (one_lane n answer)
 -- the facts answer in this lane, and the other lanes are false
 pub record TellsTarget (facts : FactTexts) (n : ℕ) (entries : List Entry) : Type 0 where
   pub here : (question : Question)
-      → IsAnswer facts otherwise.False question (told entries (code_of question) n)
+      → IsAnswer facts otherwise.False question (told entries (question_code question) n)
   pub others : (question : Question) (i : ℕ) → i < 64 → i ≢ n
-      → told entries (code_of question) i ≡ Some false
+      → told entries (question_code question) i ≡ Some false
 
 -- each target answers in its lane, counted from the first on, and the other lanes are false
 pub record TellsTargets (targets : List FactTexts) (first : ℕ) (entries : List Entry) : Type 0
   where
     pub answers : (i : ℕ) (facts : FactTexts) → slice_get targets i ≡ Some facts
         → (question : Question)
-        → IsAnswer facts otherwise.False question (told entries (code_of question) (first + i))
+        → IsAnswer facts otherwise.False
+        question (told entries (question_code question) (first + i))
     pub others : (i : ℕ) → (i < first) ⊎ (first + length targets ≤ i) → i < 64
-        → (question : Question) → told entries (code_of question) i ≡ Some false
+        → (question : Question) → told entries (question_code question) i ≡ Some false

@@ -12,7 +12,7 @@ use Rattle.cfgx_engine.specs.declared.resolve.facts.FactsError.{FactsError}
 use Rattle.cfgx_engine.specs.declared.resolve.facts.FactsError.TheVariants as facts_error
 use Rattle.cfgx_engine.specs.declared.resolve.facts.UnaskableFacts.{UnaskableFacts}
 use Rattle.cfgx_engine.specs.declared.resolve.facts.UnaskableFacts.TheVariants as unaskable_facts
-use Rattle.cfgx_engine.specs.internal.Names.{Code, code_of}
+use Rattle.cfg_expr.specs.Equality.{Code, question_code}
 
 -- the facts that are accepted
 abbrev pub accepts : UnaskableFacts → List ℕ → Type 0
@@ -43,7 +43,8 @@ pub record AddsFact (Accepts : List ℕ → Type 0) (fact : List ℕ) (old new :
 -- The codes of what the text asks, in order. A text that is passed over has none, and asks nothing
 abbrev pub IsText : UnaskableFacts → List ℕ → List Code → Type 0
 IsText unaskable text added =
-    ((questions : List Question) × AsksInOrder text questions × (added ≡ map code_of questions))
+    ((questions : List Question) × AsksInOrder text questions
+    × (added ≡ map question_code questions))
     ⊎ (passes_over unaskable text × NamesNothing text × (added ≡ []))
 
 -- what the text of a fact names was added, unless the text is passed over

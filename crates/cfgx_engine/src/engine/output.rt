@@ -31,7 +31,7 @@ const UNKNOWN_TRIPLE: &str = "unknown triple\n";
 
 const TOO_LONG: &str = "input too long\n";
 
-const NOT_UTF8: &str = "input is not UTF-8\n";
+const NOT_UTF8_MESSAGE: &str = "input is not UTF-8\n";
 
 const DONE: u8 = 0;
 
@@ -186,7 +186,7 @@ fn input_output<A: SmallAllocator>(
     match input {
         Input::Bytes(bytes) => match str::from_utf8(bytes.as_slice()) {
             Ok(text) => sections_output(alloc, target, text),
-            Err(_) => Ok(Output::constant(NOT_UTF8, FAULTY)),
+            Err(_) => Ok(Output::constant(NOT_UTF8_MESSAGE, FAULTY)),
         },
         Input::TooLong => Ok(Output::constant(TOO_LONG, FAULTY)),
     }

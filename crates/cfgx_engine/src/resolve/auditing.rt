@@ -14,7 +14,7 @@ use cfg_expr::memory::SmallAllocator;
 use std::alloc::{AllocError, Allocator};
 
 /// At most 64 targets of the type `T`, which are asked together.
-pub(super) trait Piece<T> {
+pub(super) trait Batch<T> {
     ghost use Rattle.std.specs.Prelude.{Bool, List, Option};
     ghost use Rattle.cfgx_grammar.specs.Question.{Question};
 
@@ -43,7 +43,7 @@ struct ByMatching<'a, M> {
     ghost few: { length matchers.now ≤ 64 },
 }
 
-impl<M: TargetMatcher> Piece<M> for ByMatching<'_, M> {
+impl<M: TargetMatcher> Batch<M> for ByMatching<'_, M> {
     ghost targets = { λ by. by.matchers.now };
 
     ghost answers = { λ _ matcher question answer. answer ≡ answer_by (M.answer matcher) question };
@@ -65,7 +65,7 @@ impl<M: TargetMatcher> Piece<M> for ByMatching<'_, M> {
 }
 
 /// Evaluates the condition on each matcher, and pushes each value, converted to `V`, in order. For
-/// each piece of at most 64 matchers, the condition is evaluated once. Each matcher is asked each
+/// each batch of at most 64 matchers, the condition is evaluated once. Each matcher is asked each
 /// predicate on the target once.
 pub(super) fn push_values<A: SmallAllocator, M: TargetMatcher, V: From<Option<bool>> + Drop>(
     alloc: A,
@@ -79,43 +79,43 @@ pub(super) fn push_values<A: SmallAllocator, M: TargetMatcher, V: From<Option<bo
 {
     let mut left = matchers;
     while !left.is_empty() {
-        let (piece, others) = left.split_at(left.len().min(64));
-        push_piece(alloc, &ByMatching { matchers: piece }, condition, values)?;
+        let (batch, others) = left.split_at(left.len().min(64));
+        push_batch(alloc, &ByMatching { matchers: batch }, condition, values)?;
         left = others;
     }
     Ok(())
 }
 
-/// Evaluates the condition on each target of a piece, and pushes each value, converted to `V`.
-pub(super) fn push_piece<A: SmallAllocator, T, S: Piece<T>, V: From<Option<bool>> + Drop>(
+/// Evaluates the condition on each target of a batch, and pushes each value, converted to `V`.
+pub(super) fn push_batch<A: SmallAllocator, T, S: Batch<T>, V: From<Option<bool>> + Drop>(
     alloc: A,
-    piece: &S,
+    batch: &S,
     condition: &Condition<'_>,
     values: &mut Vec<V, A>,
 ) -> Result<(), AllocError>
     ensures { OnOk result (AddsEach
-        (λ target. TellsValue V.from_gives condition.now (S.answers piece.now target))
-        (S.targets piece.now) values.old.items values.new.items) }
+        (λ target. TellsValue V.from_gives condition.now (S.answers batch.now target))
+        (S.targets batch.now) values.old.items values.new.items) }
 {
-    let answers = ask_all(alloc, piece, condition)?;
+    let answers = ask_all(alloc, batch, condition)?;
     let value = condition.eval_lanes(alloc, answers.as_slice())?;
-    push_lanes(value, piece.count(), values)
+    push_lanes(value, batch.count(), values)
 }
 
-/// Asks a piece each predicate of the condition, in order.
-fn ask_all<A: SmallAllocator, T, S: Piece<T>>(
+/// Asks a batch each predicate of the condition, in order.
+fn ask_all<A: SmallAllocator, T, S: Batch<T>>(
     alloc: A,
-    piece: &S,
+    batch: &S,
     condition: &Condition<'_>,
 ) -> Result<Vec<Kleene64, A>, AllocError>
     ensures { IfOk result (λ answers. (one : HasOneTree condition.now)
-        × AllZip (InLanes (S.answers piece.now) (S.targets piece.now)) (asked one.tree)
+        × AllZip (InLanes (S.answers batch.now) (S.targets batch.now)) (asked one.tree)
         answers.items) }
 {
     let predicates = condition.predicates();
     let mut answers = Vec::with_capacity(alloc, predicates.left())?;
     for predicate in predicates {
-        answers.push(piece.ask(predicate))?;
+        answers.push(batch.ask(predicate))?;
     }
     Ok(answers)
 }

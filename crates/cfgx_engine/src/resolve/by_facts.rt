@@ -14,10 +14,9 @@ ghost use Rattle.cfgx_engine.specs.internal.Index.{TellsTargets};
 ghost use Rattle.cfgx_engine.specs.internal.InLanes.{AddsEach, InLanes, TellsValue};
 ghost use Rattle.cfgx_engine.specs.internal.Shows.{Fails};
 
-use super::auditing::{Piece, push_piece};
+use super::auditing::{Batch, push_batch};
 use super::facts::{Facts, Otherwise, unnamed_answer};
 use super::index::{Entries, all_lanes, merged};
-use super::parts::Parts;
 use cfg_expr::Predicate;
 use cfg_expr::error::Failure;
 use cfg_expr::expr::logic::{Kleene64, Logic};
@@ -95,7 +94,7 @@ impl<'a, A: SmallAllocator> Indexed<'a, A> {
         ensures { InLanes (λ facts. IsAnswer facts otherwise) self.now
             (question_of predicate.now) result }
     {
-        let named = self.entries.answers_to(&Parts::of(predicate));
+        let named = self.entries.answers_to(&predicate.asked_texts());
         // If no fact of a target names the predicate, its lane is false and takes the unnamed
         // answer. Else it is true or unknown, and stays so, since that answer is false or unknown.
         named.or(all_lanes(unnamed_answer(predicate, otherwise)))
@@ -110,7 +109,7 @@ struct ByFacts<'p, 'a, A: SmallAllocator> {
     otherwise: Otherwise,
 }
 
-impl<A: SmallAllocator> Piece<Facts<A>> for ByFacts<'_, '_, A> {
+impl<A: SmallAllocator> Batch<Facts<A>> for ByFacts<'_, '_, A> {
     ghost use Rattle.cfgx_engine.specs.Facts.{IsAnswer};
 
     ghost targets = { λ by. by.indexed.now };
@@ -129,21 +128,21 @@ impl<A: SmallAllocator> Piece<Facts<A>> for ByFacts<'_, '_, A> {
     }
 }
 
-/// Returns the targets in pieces of 64, each with what its facts say.
-fn indexed_pieces<A: SmallAllocator>(
+/// Returns the targets in batches of 64, each with what its facts say.
+fn indexed_batches<A: SmallAllocator>(
     alloc: A,
     targets: &[Facts<A>],
 ) -> Result<Vec<Indexed<'_, A>, A>, AllocError>
-    ensures { IfOk result (λ pieces. flat_map (λ piece. piece) pieces.items ≡ targets.now) }
+    ensures { IfOk result (λ batches. flat_map (λ batch. batch) batches.items ≡ targets.now) }
 {
-    let mut pieces = Vec::new(alloc);
+    let mut batches = Vec::new(alloc);
     let mut left = targets;
     while !left.is_empty() {
-        let (piece, others) = left.split_at(left.len().min(64));
-        pieces.push(Indexed::of(alloc, piece)?)?;
+        let (batch, others) = left.split_at(left.len().min(64));
+        batches.push(Indexed::of(alloc, batch)?)?;
         left = others;
     }
-    Ok(pieces)
+    Ok(batches)
 }
 
 /// Why an audit ended without values.
@@ -160,8 +159,8 @@ pub struct AuditError<A: Allocator = Global> {
 /// of condition `i` on target `j`. A target answers by its facts, and `otherwise` is the answer to
 /// a predicate that no fact names.
 ///
-/// Targets are taken in pieces of 64, and the facts of each piece are sorted once. Then each
-/// condition is read once. For each piece, each predicate of the condition is looked up once, and
+/// Targets are taken in batches of 64, and the facts of each batch are sorted once. Then each
+/// condition is read once. For each batch, each predicate of the condition is looked up once, and
 /// the condition is evaluated once.
 ///
 /// # Errors
@@ -188,15 +187,15 @@ pub fn audit_facts<A: SmallAllocator>(
     if conditions.is_empty() {
         return Ok(values);
     }
-    let Ok(pieces) = indexed_pieces(alloc, targets) else {
+    let Ok(batches) = indexed_batches(alloc, targets) else {
         let failure = Failure::Memory(AllocError);
         return Err(AuditError { index: 0, failure });
     };
-    let pieces = pieces.as_slice();
+    let batches = batches.as_slice();
     let mut reader = ConditionReader::new(alloc);
     for index in 0..conditions.len() {
         let text = conditions[index];
-        if let Err(failure) = push_text(alloc, &mut reader, text, pieces, otherwise, &mut values) {
+        if let Err(failure) = push_text(alloc, &mut reader, text, batches, otherwise, &mut values) {
             return Err(AuditError { index, failure });
         }
     }
@@ -208,34 +207,34 @@ fn push_text<'a, A: SmallAllocator>(
     alloc: A,
     reader: &mut ConditionReader<'a, A>,
     text: &'a str,
-    pieces: &[Indexed<'_, A>],
+    batches: &[Indexed<'_, A>],
     otherwise: Otherwise,
     values: &mut Vec<Option<bool>, A>,
 ) -> Result<(), Failure<A>>
     ensures values { OnOk result (AddsEach (λ facts. TellsValue (λ value output. output ≡ value)
-        (strip text.now) (IsAnswer facts otherwise)) (flat_map (λ piece. piece) pieces.now)
+        (strip text.now) (IsAnswer facts otherwise)) (flat_map (λ batch. batch) batches.now)
         values.old.items values.new.items) }
     ensures condition { OnOk result (HasOneTree (strip text.now)) }
     ensures err { IfErr result (Fails (λ fault. ParsesAs text.now (Err fault))) }
 {
     let condition = reader.read(text)?;
-    Ok(push_pieces(alloc, pieces, otherwise, &condition, values)?)
+    Ok(push_batches(alloc, batches, otherwise, &condition, values)?)
 }
 
-/// Evaluates the condition on each target of the pieces, and pushes each value.
-fn push_pieces<A: SmallAllocator>(
+/// Evaluates the condition on each target of the batches, and pushes each value.
+fn push_batches<A: SmallAllocator>(
     alloc: A,
-    pieces: &[Indexed<'_, A>],
+    batches: &[Indexed<'_, A>],
     otherwise: Otherwise,
     condition: &Condition<'_>,
     values: &mut Vec<Option<bool>, A>,
 ) -> Result<(), AllocError>
     ensures { OnOk result (AddsEach (λ facts. TellsValue (λ value output. output ≡ value)
-        condition.now (IsAnswer facts otherwise)) (flat_map (λ piece. piece) pieces.now)
+        condition.now (IsAnswer facts otherwise)) (flat_map (λ batch. batch) batches.now)
         values.old.items values.new.items) }
 {
-    for indexed in pieces {
-        push_piece(alloc, &ByFacts { indexed, otherwise }, condition, values)?;
+    for indexed in batches {
+        push_batch(alloc, &ByFacts { indexed, otherwise }, condition, values)?;
     }
     Ok(())
 }

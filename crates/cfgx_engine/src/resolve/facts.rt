@@ -9,7 +9,8 @@ ghost use Rattle.cfgx_engine.specs.Facts.{fact_text, otherwise_eq, unnamed_answe
 ghost use Rattle.cfgx_grammar.specs.Question.{Question};
 ghost use Rattle.cfgx_engine.specs.declared.resolve.facts.Otherwise.{Otherwise};
 ghost use Rattle.cfgx_engine.specs.internal.Index.{TellsTarget};
-ghost use Rattle.cfgx_engine.specs.internal.Names.{AreNames, code, code_of, facts_in};
+ghost use Rattle.cfg_expr.specs.Equality.{question_code, texts_code};
+ghost use Rattle.cfgx_engine.specs.internal.Named.{AreNames, facts_in};
 ghost use Rattle.cfgx_engine.specs.internal.ReadsFacts.{AddsFact, AddsText, accepts};
 ghost use Rattle.cfgx_engine.specs.internal.ReadsFacts.{error_at, passes_over};
 ghost use Rattle.cfgx_engine.specs.internal.Shows.{Fails};
@@ -17,11 +18,10 @@ ghost use Rattle.cfgx_engine.specs.Readings.{ParsesAs};
 ghost use Rattle.cfgx_engine.specs.Request.{texts};
 
 use super::index::{Entries, merged, one_lane};
-use super::names::Names;
-use super::parts::Parts;
+use super::named::NamedPredicates;
 use cfg_expr::Predicate;
 use cfg_expr::error::{Failure, ParseError};
-use cfg_expr::expr::ConditionReader;
+use cfg_expr::expr::{AskedTexts, ConditionReader};
 use cfg_expr::memory::SmallAllocator;
 use cfgx_parser::unaskable::is_unaskable;
 use std::alloc::{AllocError, Allocator, Global};
@@ -114,13 +114,13 @@ enum UnaskableFacts {
 #[derive(Drop)]
 #[derive_where(Debug)]
 pub struct Facts<A: SmallAllocator = Global> {
-    true_names: Names<A>,
-    unknown_names: Names<A>,
+    true_names: NamedPredicates<A>,
+    unknown_names: NamedPredicates<A>,
 }
 
 impl<A: SmallAllocator> Model for Facts<A> {
     ghost use Rattle.cfgx_engine.specs.Facts.{FactTexts};
-    ghost use Rattle.cfgx_engine.specs.internal.Names.{AreFound, facts_in};
+    ghost use Rattle.cfgx_engine.specs.internal.Named.{AreFound, facts_in};
 
     ghost Value = { FactTexts };
 
@@ -162,8 +162,8 @@ impl<A: SmallAllocator> Facts<A> {
         ensures { ReadsFacts (accepts unaskable) (texts facts.now) result }
     {
         let mut reader = ConditionReader::new(alloc);
-        let mut true_names = Names::new(alloc);
-        let mut unknown_names = Names::new(alloc);
+        let mut true_names = NamedPredicates::new(alloc);
+        let mut unknown_names = NamedPredicates::new(alloc);
         for (index, fact) in facts.iter().enumerate() {
             let added = add_fact(
                 alloc,
@@ -195,13 +195,14 @@ impl<A: SmallAllocator> Facts<A> {
         if self.true_names.is_empty() && self.unknown_names.is_empty() {
             return unnamed;
         }
-        self.answer_to(&Parts::of(predicate), unnamed)
+        self.answer_to(&predicate.asked_texts(), unnamed)
     }
 
-    /// Returns the answer of the facts to the predicate with the parts `asked`, which is `unnamed`
+    /// Returns the answer of the facts to the predicate that asks `asked`, which is `unnamed`
     /// if no fact names it.
-    fn answer_to(&self, asked: &Parts<'_>, unnamed: Option<bool>) -> Option<bool>
-        ensures { (question : Question) (otherwise : Otherwise) → code asked.now ≡ code_of question
+    fn answer_to(&self, asked: &AskedTexts<'_>, unnamed: Option<bool>) -> Option<bool>
+        ensures { (question : Question) (otherwise : Otherwise)
+            → texts_code asked.now ≡ question_code question
             → unnamed ≡ unnamed_answer otherwise question
             → IsAnswer self.now otherwise question result }
     {
@@ -230,8 +231,8 @@ impl<A: SmallAllocator> Facts<A> {
 fn add_fact<'a, A: SmallAllocator>(
     alloc: A,
     reader: &mut ConditionReader<'a, A>,
-    true_names: &mut Names<A>,
-    unknown_names: &mut Names<A>,
+    true_names: &mut NamedPredicates<A>,
+    unknown_names: &mut NamedPredicates<A>,
     fact: &'a str,
     unaskable: UnaskableFacts,
 ) -> Result<(), Failure<A>>
@@ -252,7 +253,7 @@ fn add_fact<'a, A: SmallAllocator>(
 fn add_text<'a, A: SmallAllocator>(
     alloc: A,
     reader: &mut ConditionReader<'a, A>,
-    names: &mut Names<A>,
+    names: &mut NamedPredicates<A>,
     text: &'a str,
     unaskable: UnaskableFacts,
 ) -> Result<(), Failure<A>>

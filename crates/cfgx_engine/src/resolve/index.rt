@@ -5,9 +5,9 @@ ghost use Rattle.std.specs.List.{slice_get};
 ghost use Rattle.std.specs.Ordering.{is_le};
 ghost use Rattle.cfgx_syntax.specs.Kleene.{EachLane};
 ghost use Rattle.cfgx_engine.specs.internal.Index.{AreNextAnswers, EndsWith, Joins, one_lane};
-ghost use Rattle.cfgx_engine.specs.internal.Names.{code};
+ghost use Rattle.cfg_expr.specs.Equality.{texts_code};
 
-use super::parts::Parts;
+use cfg_expr::expr::AskedTexts;
 use cfg_expr::expr::logic::{Kleene64, Logic};
 use std::alloc::{AllocError, Allocator};
 use std::cmp::Ordering;
@@ -19,7 +19,7 @@ use std::marker::Model;
 /// Contracts see a list of entries.
 #[derive(Drop)]
 pub(super) struct Entries<'a, A: Allocator> {
-    asked: Vec<Parts<'a>, A>,
+    asked: Vec<AskedTexts<'a>, A>,
     answers: Vec<Kleene64, A>,
 }
 
@@ -53,7 +53,7 @@ impl<'a, A: Allocator> Entries<'a, A> {
     }
 
     /// Returns the entries of these predicates, which have to be in order, with these answers.
-    pub(super) fn of(asked: Vec<Parts<'a>, A>, answers: Vec<Kleene64, A>) -> Entries<'a, A>
+    pub(super) fn of(asked: Vec<AskedTexts<'a>, A>, answers: Vec<Kleene64, A>) -> Entries<'a, A>
         requires as_many { length asked.items ≡ length answers.items }
         requires sorted { AreSorted (paired asked.items answers.items) }
         ensures { result ≡ paired asked.entry.items answers.items }
@@ -61,26 +61,26 @@ impl<'a, A: Allocator> Entries<'a, A> {
         Entries { asked, answers }
     }
 
-    /// Returns the answers to the predicate with the parts `asked`: false in each lane if there is
+    /// Returns the answers to the predicate that asks `asked`: false in each lane if there is
     /// no entry.
-    pub(super) fn answers_to(&self, asked: &Parts<'_>) -> Kleene64
-        ensures { EachLane result (told self.now (code asked.now)) }
+    pub(super) fn answers_to(&self, asked: &AskedTexts<'_>) -> Kleene64
+        ensures { EachLane result (told self.now (texts_code asked.now)) }
     {
         let names = self.asked.as_slice();
         let answers = self.answers.as_slice();
-        match names.binary_search_by(|name| name.compare(asked)) {
+        match names.binary_search_by(|name| name.cmp(asked)) {
             Ok(place) => answers[place],
             Err(_) => Kleene64::bottom(),
         }
     }
 }
 
-/// Whether the last predicate is that with the parts `asked`.
-pub(super) fn ends_with(names: &[Parts<'_>], asked: &Parts<'_>) -> bool
-    ensures { IsTrue result ↔ EndsWith names.now (code asked.now) }
+/// Whether the last predicate is that which asks `asked`.
+pub(super) fn ends_with(names: &[AskedTexts<'_>], asked: &AskedTexts<'_>) -> bool
+    ensures { IsTrue result ↔ EndsWith names.now (texts_code asked.now) }
 {
     match names.last() {
-        Some(last) => last.compare(asked).is_eq(),
+        Some(last) => last.cmp(asked).is_eq(),
         None => false,
     }
 }
@@ -103,7 +103,7 @@ pub(super) fn merged<'a, A: Allocator + Copy>(
     let (mut i, mut j) = (0, 0);
     while i < one_names.len() && j < other_names.len() {
         let (first, second) = (&one_names[i], &other_names[j]);
-        let order = first.compare(second);
+        let order = first.cmp(second);
         names.push(lesser(order, first, second))?;
         answers.push(joined(order, one_answers[i], other_answers[j]))?;
         i += usize::from(order.is_le());
@@ -124,7 +124,7 @@ fn left<T>(items: &[T], from: usize) -> &[T]
 }
 
 /// Returns the lesser of two predicates, which compare as `order`.
-fn lesser<'a>(order: Ordering, one: &Parts<'a>, other: &Parts<'a>) -> Parts<'a>
+fn lesser<'a>(order: Ordering, one: &AskedTexts<'a>, other: &AskedTexts<'a>) -> AskedTexts<'a>
     ensures { result ≡ (if is_le order then one.now else other.now) }
 {
     if order.is_le() { *one } else { *other }

@@ -7,4 +7,4 @@ use Rattle.cfgx_engine.proofs.resolve.auditing.ask_all.Given as goal
 abbrev pub invariant-loop-predicate : goal.invariant-loop-predicate
 invariant-loop-predicate g l = (front : List Question)
     × (front ++ l.predicate-iterator ≡ l.initial.predicate-iterator)
-    × AllZip (InLanes (g.S.Piece.answers l.piece) (g.S.Piece.targets l.piece)) front l.answers.items
+    × AllZip (InLanes (g.S.Batch.answers l.batch) (g.S.Batch.targets l.batch)) front l.answers.items

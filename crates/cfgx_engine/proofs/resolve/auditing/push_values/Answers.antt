@@ -1,4 +1,4 @@
--- The values on the next piece are added. In the end no matcher is left.
+-- The values on the next batch are added. In the end no matcher is left.
 use Rattle.std.proofs.Common.{◌≡◌, ◌++◌, [], Bool, Option, append_assoc, refl}
 use Rattle.cfgx_grammar.specs.Question.{Question}
 use Rattle.cfgx_engine.specs.{Verdicts.answer_by, internal.InLanes.TellsValue}
@@ -19,5 +19,5 @@ loop-left-preserved g c =
     let so_far = c.loop-left.invariant in (
       so_far.0 ++ c.split_at.result.0.now,
       rw (append_assoc, ← c.split_at.ensures.by_index.0) so_far.1,
-      AddsEach-append _ so_far.0 c.split_at.result.0.now _ _ _ so_far.2 c.in_ok-push_piece.ensures,
+      AddsEach-append _ so_far.0 c.split_at.result.0.now _ _ _ so_far.2 c.in_ok-push_batch.ensures,
     )

@@ -36,7 +36,7 @@ pub returns-clause-ok : goal.returns-clause-ok
 returns-clause-ok g c =
     rw (
       take_all _ _ c.loop-index-test.false,
-      c.as_slice-pieces.ensures.value,
+      c.as_slice-batches.ensures.value,
       c.in-Ok.ensures,
     ) at c.loop-index.invariant.1
 

@@ -10,4 +10,4 @@ abbrev pub invariant-loop-index : goal.invariant-loop-index
 invariant-loop-index g l = let passed = texts (take l.index l.conditions) in
     AllByRecursion (λ text. HasOneTree (strip text)) passed
     × AreValues (λ facts. IsAnswer facts l.otherwise) (map strip passed)
-    (flat_map (λ piece. piece) l.pieces) l.values.items
+    (flat_map (λ batch. batch) l.batches) l.values.items

@@ -10,4 +10,4 @@ returns-in_err-condition-clause-err g c =
 
 pub returns-clause-values : goal.returns-clause-values
 returns-clause-values g c =
-    rw c.in_ok-condition.ensures.answers.0 at c.in_ok-push_pieces.ensures
+    rw c.in_ok-condition.ensures.answers.0 at c.in_ok-push_batches.ensures

@@ -36,9 +36,9 @@ loop-i-preserved g c =
     rw (c.in_ok-push.ensures.items, c.in_ok-push-2.ensures.items)
     (Merges-step _ _ _ _ _ _ c.loop-i.i c.loop-i.j long long' c.loop-i.invariant _ _
     c.lesser.result c.index-one_answers-i.result c.index-other_answers-j.result c.joined.result
-    c.compare-order.result _ _ c.loop-i-test.true c.if-j-other_names.true
+    c.cmp-order.result _ _ c.loop-i-test.true c.if-j-other_names.true
     (get_or_default _ _ _ _ c.loop-i-test.true) (get_or_default _ _ _ _ c.if-j-other_names.true)
-    c.index-one_answers-i.is c.index-other_answers-j.is c.compare-order.ensures c.lesser.ensures
+    c.index-one_answers-i.is c.index-other_answers-j.is c.cmp-order.ensures c.lesser.ensures
     c.joined.ensures
     (ap (λ n. c.loop-i.i + n) (c.from-i.ensures ∙ byte_of c.is_le.result _ c.is_le.ensures))
     (ap (λ n. c.loop-i.j + n) (c.from-j.ensures ∙ byte_of c.is_ge.result _ c.is_ge.ensures)))

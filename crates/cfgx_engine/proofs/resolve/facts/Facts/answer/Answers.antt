@@ -2,8 +2,8 @@
 use Rattle.std.proofs.Common.{◌≡◌, List, [], ◌∷◌, inr, arith}
 use Rattle.std.specs.List.{Contains}
 use Rattle.cfg_expr.specs.Predicate.{question_of}
-use Rattle.cfgx_engine.specs.internal.Names.{Code}
-use Rattle.cfgx_engine.proofs.NameLemmas.{IsNamed-spelled}
+use Rattle.cfg_expr.specs.Equality.{Code}
+use Rattle.cfgx_engine.proofs.NamedLemmas.{IsNamed-spelled}
 use Rattle.cfgx_engine.proofs.resolve.facts.Facts.answer.Goals as goal
 
 none_in : (names : List Code) (name : Code) → names ≡ [] → ¬ Contains names name
@@ -24,4 +24,4 @@ returns-then-is_empty-2 g c =
     )))
 
 pub returns : goal.returns
-returns g c = c.answer_to.ensures _ _ c.of.ensures c.unnamed_answer-unnamed.ensures
+returns g c = c.answer_to.ensures _ _ c.asked_texts.ensures c.unnamed_answer-unnamed.ensures

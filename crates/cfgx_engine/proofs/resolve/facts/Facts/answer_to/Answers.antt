@@ -1,6 +1,6 @@
 use Rattle.std.proofs.Common.{inl, inr, refl}
 use Rattle.cfgx_engine.proofs.FactLemmas.{true_and_false}
-use Rattle.cfgx_engine.proofs.NameLemmas.{IsNamed-spelled}
+use Rattle.cfgx_engine.proofs.NamedLemmas.{IsNamed-spelled}
 use Rattle.cfgx_engine.proofs.resolve.facts.Facts.answer_to.Goals as goal
 
 pub returns-then-has : goal.returns-then-has

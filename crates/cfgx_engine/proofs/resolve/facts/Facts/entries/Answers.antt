@@ -3,7 +3,7 @@ use Rattle.std.proofs.lemmas.Result.{IfOk-weaker}
 use Rattle.cfgx_syntax.specs.Kleene.{lane}
 use Rattle.cfgx_engine.specs.internal.Index.{Entry, Joins, TellsTarget}
 use Rattle.std.proofs.Common.{List}
-use Rattle.cfgx_engine.specs.internal.Names.{facts_in}
+use Rattle.cfgx_engine.specs.internal.Named.{facts_in}
 use Rattle.cfgx_engine.proofs.IndexLemmas.{TellsTarget-both}
 use Rattle.cfgx_engine.proofs.resolve.facts.Facts.entries.Goals as goal
 

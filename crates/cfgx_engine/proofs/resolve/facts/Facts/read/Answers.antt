@@ -1,7 +1,7 @@
 use Rattle.std.proofs.lemmas.List.{take_all}
 use Rattle.std.proofs.lemmas.List.Elements.{All-nil}
 use Rattle.std.proofs.lemmas.List.Sorted.{All-permutation}
-use Rattle.cfgx_engine.specs.internal.Names.{IsName}
+use Rattle.cfgx_engine.specs.internal.Named.{IsName}
 use Rattle.cfgx_engine.specs.internal.ReadsFacts.{accepts}
 use Rattle.cfgx_engine.proofs.FactLemmas.{AreFacts-more, AreFacts-none, AreFacts-sorted}
 use Rattle.cfgx_engine.proofs.FactLemmas.{ReadsFacts-fails}

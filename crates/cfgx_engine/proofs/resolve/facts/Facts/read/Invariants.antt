@@ -1,6 +1,6 @@
 use Rattle.std.proofs.Common.{take}
 use Rattle.cfgx_engine.specs.{Facts.AreFacts, Request.texts, internal.ReadsFacts.accepts}
-use Rattle.cfgx_engine.specs.internal.Names.{AreNames, facts_in}
+use Rattle.cfgx_engine.specs.internal.Named.{AreNames, facts_in}
 use Rattle.cfgx_engine.proofs.resolve.facts.Facts.read.Given as goal
 
 -- the facts that were read so far

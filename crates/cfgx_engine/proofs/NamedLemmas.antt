@@ -1,7 +1,7 @@
 -- Codes of predicates, and how one is found among those that are sorted.
 use Rattle.std.proofs.Common.{◌≡◌, ◌≤◌, ◌<◌, ◌+◌, ◌↔◌, ◌∙◌, refl, sym, ap, ℕ, zero, suc, List}
 use Rattle.std.proofs.Common.{[], ◌∷◌, ◌++◌, arith, append_assoc, drop, length, map}
-use Rattle.std.proofs.Common.{Ok, Result, Err, IsTrue, get_or}
+use Rattle.std.proofs.Common.{Ok, Result, Err, IsTrue, get_or, None, Option, Some}
 use Rattle.std.proofs.lemmas.List.{drop-append-le, get_or-map, get_or_default, length-drop}
 use Rattle.std.proofs.lemmas.List.{length-map}
 use Rattle.std.proofs.lemmas.List.{length-append, map-append, take-append-le}
@@ -17,41 +17,38 @@ use Rattle.std.proofs.lemmas.List.Elements.{All-weaker, recursion_from_All}
 use Rattle.std.proofs.Math.Seq.{take-length}
 use Rattle.std.specs.List.Sorted.{IsBinarySearchResult, IsSorted, IsSortedBy, IsSearchInRange}
 use Rattle.std.specs.declared.cmp.Ordering.TheVariants.{Equal}
-use Rattle.cfgx_fields.specs.declared.atomic.HasAtomic.TheVariants.{IntegerSize, Pointer}
-use Rattle.cfgx_fields.specs.declared.endian.Endian.TheVariants.{big, little}
-use Rattle.cfgx_fields.specs.declared.text_key.TextKey.TheVariants as key
-use Rattle.cfgx_grammar.specs.Question.{Question, TargetQuestion}
-use Rattle.cfgx_engine.specs.internal.Names.{Code, IsInside, code_at, code_cmp, code_of, code_with}
-use Rattle.cfgx_engine.specs.internal.Names.{AreNames, IsName, question_in, spelled}
+use Rattle.cfgx_grammar.specs.Question.{Question}
+use Rattle.cfgx_parser.proofs.AskedNumbers.{numbered-same}
+use Rattle.cfgx_parser.specs.Asked.{asked_number, asked_numbered, key_of, kind_number}
+use Rattle.cfgx_parser.specs.Asked.{question_with, value_of, without_texts}
+use Rattle.cfg_expr.specs.Equality.{Code, code_cmp, code_with, number_code, question_code}
+use Rattle.cfgx_engine.specs.internal.Named.{AreNames, IsInside, IsName, code_at, number_in}
+use Rattle.cfgx_engine.specs.internal.Named.{question_in, spelled}
 use Rattle.cfgx_engine.specs.Facts.{IsNamed}
 use Rattle.cfgx_grammar.specs.{Spelling.spelling, Tree.Tree, WellFormed.IsWellFormed}
 use Rattle.cfgx_grammar.proofs.alone.{spelling_alone}
-use Rattle.cfgx_engine.specs.declared.resolve.names.Named.{Named}
+use Rattle.cfgx_engine.specs.declared.resolve.named.NamedPredicate.{NamedPredicate}
 
 -- The code of a question tells the question.
 
-pub question_in-code : (question : Question) → question_in (code_of question) ≡ question
-question_in-code (Question.flag key) = refl
-question_in-code (Question.key_value key value) = refl
-question_in-code Question.test = refl
-question_in-code Question.debug_assertions = refl
-question_in-code Question.proc_macro = refl
-question_in-code (Question.feature text) = refl
-question_in-code (Question.target_feature text) = refl
-question_in-code (Question.target (TargetQuestion.text key.Abi text)) = refl
-question_in-code (Question.target (TargetQuestion.text key.Arch text)) = refl
-question_in-code (Question.target (TargetQuestion.endian big)) = refl
-question_in-code (Question.target (TargetQuestion.endian little)) = refl
-question_in-code (Question.target (TargetQuestion.text key.Env text)) = refl
-question_in-code (Question.target (TargetQuestion.text key.Family text)) = refl
-question_in-code (Question.target (TargetQuestion.has_atomic (IntegerSize bits))) = refl
-question_in-code (Question.target (TargetQuestion.has_atomic Pointer)) = refl
-question_in-code (Question.target (TargetQuestion.text key.Os text)) = refl
-question_in-code (Question.target (TargetQuestion.text key.Panic text)) = refl
-question_in-code (Question.target (TargetQuestion.pointer_width width)) = refl
-question_in-code (Question.target (TargetQuestion.text key.Vendor text)) = refl
+-- the parts of a question make it
+with_parts : (question : Question)
+    → question_with (key_of question) (value_of question) (without_texts question) ≡ question
+with_parts question = grind arith
 
-pub one_question : (one other : Question) → code_of one ≡ code_of other → one ≡ other
+number_in-code : (number : Option ℕ) → number_in (number_code number) ≡ number
+number_in-code None = refl
+number_in-code (Some number) = refl
+
+pub question_in-code : (question : Question) → question_in (question_code question) ≡ question
+question_in-code question =
+    let asked = without_texts question in
+    ap (λ (number : Option ℕ). question_with (key_of question) (value_of question)
+    (asked_numbered (kind_number asked) number)) (number_in-code (asked_number asked))
+    ∙ ap (question_with (key_of question) (value_of question)) (numbered-same asked)
+    ∙ with_parts question
+
+pub one_question : (one other : Question) → question_code one ≡ question_code other → one ≡ other
 one_question one other same =
     sym (question_in-code one) ∙ ap question_in same ∙ question_in-code other
 
@@ -67,7 +64,8 @@ equal_codes one other equal =
 
 -- The codes of what stands in a buffer.
 
-pub code_at-append : (buffer more : List ℕ) (named : Named) → IsInside (length buffer) named
+pub code_at-append : (buffer more : List ℕ) (named : NamedPredicate)
+    → IsInside (length buffer) named
     → code_at (buffer ++ more) named ≡ code_at buffer named
 code_at-append buffer more named inside =
     let rest = drop named.start buffer in
@@ -80,7 +78,7 @@ code_at-append buffer more named inside =
       take-append-le named.value_len (drop named.key_len rest) more (omega arith),
     ) refl
 
-codes_at-append : (buffer more : List ℕ) (all : List Named)
+codes_at-append : (buffer more : List ℕ) (all : List NamedPredicate)
     → AllByRecursion (IsInside (length buffer)) all
     → map (code_at (buffer ++ more)) all ≡ map (code_at buffer) all
 codes_at-append buffer more [] inside = refl
@@ -88,12 +86,12 @@ codes_at-append buffer more (named ∷ all) inside =
     rw (code_at-append buffer more named inside.0, codes_at-append buffer more all inside.1) refl
 
 -- a name more, whose texts are added to the buffer
-module _ (buffer key value : List ℕ) (all : List Named) (named : Named)
+module _ (buffer key value : List ℕ) (all : List NamedPredicate) (named : NamedPredicate)
     (start : named.start ≡ length buffer) (key_len : named.key_len ≡ length key)
     (value_len : named.value_len ≡ length value)
     (inside : All (IsInside (length buffer)) all) where
   pub codes_at-push : map (code_at ((buffer ++ key) ++ value)) (all ++ named ∷ [])
-      ≡ map (code_at buffer) all ++ code_with named.kind named.number key value ∷ []
+      ≡ map (code_at buffer) all ++ code_with named.asked key value ∷ []
   codes_at-push =
       let same = codes_at-append buffer (key ++ value) all (recursion_from_All _ all inside) in
       rw (
@@ -166,24 +164,27 @@ module _ {X : Type 0} (f : X → Code) where
 -- Codes of questions that can stand in a text.
 
 pub Contains-codes : (questions : List Question) (question : Question)
-    → Contains (map code_of questions) (code_of question) ↔ Contains questions question
+    → Contains (map question_code questions) (question_code question) ↔ Contains questions question
 Contains-codes questions question = (
   λ (k, below, is).
-      let below' : k < length questions = rw (← length-map questions code_of) below in
-      let here = sym (get_or-map code_of questions k question (code_of question) below') ∙ is in
+      let below' : k < length questions = rw (← length-map questions question_code) below in
+      let here = sym (get_or-map question_code questions k question (question_code question)
+      below') ∙ is in
       (k, below', one_question (get_or questions k question) question here),
   λ (k, below, is). (
     k,
     rw length-map below,
-    get_or-map code_of questions k question (code_of question) below ∙ ap code_of is,
+    get_or-map question_code questions k question (question_code question) below
+        ∙ ap question_code is,
   ),
 )
 
 pub AreNames-append : (names : List Code) (questions : List Question) → AreNames names
-    → AllByRecursion IsWellFormed questions → AreNames (names ++ map code_of questions)
+    → AllByRecursion IsWellFormed questions → AreNames (names ++ map question_code questions)
 AreNames-append names questions named good =
-    All-append IsName names (map code_of questions) named (All-map IsName code_of questions
-    (All-weaker IsWellFormed (λ question. IsName (code_of question))
+    All-append IsName names (map question_code questions) named
+    (All-map IsName question_code questions
+    (All-weaker IsWellFormed (λ question. IsName (question_code question))
     (λ question well_formed. (question, well_formed, refl)) questions
     (All-from_recursion IsWellFormed questions good)))
 
@@ -198,7 +199,7 @@ spelled_name name = spelling (question_in name)
 
 -- the texts that spell the questions of codes name these questions
 pub IsNamed-spelled : (names : List Code) (question : Question) → AreNames names
-    → IsNamed (spelled names) question ↔ Contains names (code_of question)
+    → IsNamed (spelled names) question ↔ Contains names (question_code question)
 IsNamed-spelled names question named = (
   λ (k, text, below, is, (tree, has, among)).
       let below' : k < length names = rw (← length-map names spelled_name) below in
@@ -211,17 +212,17 @@ IsNamed-spelled names question named = (
       let only : Contains (other ∷ []) question = rw leaf at among in (
         k,
         below',
-        get_or_default names k (code_of question) [] below' ∙ code
-            ∙ ap code_of (only_item other question only),
+        get_or_default names k (question_code question) [] below' ∙ code
+            ∙ ap question_code (only_item other question only),
       ),
   λ (k, below, is).
-      let (other, good, code) = named k (code_of question) below in
+      let (other, good, code) = named k (question_code question) below in
       let good' = rw (← one_question question other (sym is ∙ code)) at good in
       let alone = spelling_alone question good' in (
         k,
         spelling question,
         rw length-map below,
-        get_or-map spelled_name names k (code_of question) (spelling question) below
+        get_or-map spelled_name names k (question_code question) (spelling question) below
             ∙ ap spelled_name is ∙ ap spelling (question_in-code question),
         (Tree.leaf question, alone.reads.has, (zero, omega arith, refl)),
       ),

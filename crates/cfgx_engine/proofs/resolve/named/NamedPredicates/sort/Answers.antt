@@ -1,9 +1,9 @@
 use Rattle.std.proofs.Common.{of_calls, rules}
 use Rattle.std.proofs.lemmas.Fn.{always_returns_same}
 use Rattle.std.proofs.lemmas.List.Sorted.{All-permutation, IsPermutation-map, ranks_by}
-use Rattle.cfgx_engine.specs.internal.Names.{IsInside, code_at}
-use Rattle.cfgx_engine.proofs.NameLemmas.{code_total, sorted_codes}
-use Rattle.cfgx_engine.proofs.resolve.names.Names.sort.Goals as goal
+use Rattle.cfgx_engine.specs.internal.Named.{IsInside, code_at}
+use Rattle.cfgx_engine.proofs.NamedLemmas.{code_total, sorted_codes}
+use Rattle.cfgx_engine.proofs.resolve.named.NamedPredicates.sort.Goals as goal
 
 pub invariant_of-self : goal.invariant_of-self
 invariant_of-self g c =

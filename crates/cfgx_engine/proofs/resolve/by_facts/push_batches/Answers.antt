@@ -1,10 +1,10 @@
--- The values on the next piece are added. In the end no piece is left.
+-- The values on the next batch are added. In the end no batch is left.
 use Rattle.std.proofs.Common.{◌≡◌, Bool, Option}
 use Rattle.std.proofs.lemmas.List.{take_all}
 use Rattle.cfgx_engine.specs.Facts.{FactTexts, IsAnswer}
 use Rattle.cfgx_engine.specs.internal.InLanes.{TellsValue}
-use Rattle.cfgx_engine.proofs.AuditLemmas.{AddsEach-none, AddsEach-piece}
-use Rattle.cfgx_engine.proofs.resolve.by_facts.push_pieces.Goals as goal
+use Rattle.cfgx_engine.proofs.AuditLemmas.{AddsEach-none, AddsEach-batch}
+use Rattle.cfgx_engine.proofs.resolve.by_facts.push_batches.Goals as goal
 
 pub loop-indexed-init : goal.loop-indexed-init
 loop-indexed-init g c =
@@ -13,9 +13,9 @@ loop-indexed-init g c =
 
 pub loop-indexed-preserved : goal.loop-indexed-preserved
 loop-indexed-preserved g c =
-    AddsEach-piece _ c.args.pieces.now c.loop-indexed.indexed-index c.indexed-item.result
+    AddsEach-batch _ c.args.batches.now c.loop-indexed.indexed-index c.indexed-item.result
     _ _ _ c.loop-indexed-test.true c.loop-indexed.invariant
-    (rw c.indexed-item.is at c.in_ok-push_piece.ensures)
+    (rw c.indexed-item.is at c.in_ok-push_batch.ensures)
 
 pub returns : goal.returns
 returns g c = rw (take_all _ _ c.loop-indexed-test.false) at c.loop-indexed.invariant

@@ -1,14 +1,15 @@
 use Rattle.std.proofs.Common.{of_calls, rules}
 use Rattle.std.proofs.lemmas.Fn.{always_returns_same}
-use Rattle.cfgx_engine.specs.internal.Names.{code, code_at, code_cmp}
-use Rattle.cfgx_engine.proofs.NameLemmas.{found}
-use Rattle.cfgx_engine.proofs.resolve.names.Names.finds.Goals as goal
+use Rattle.cfg_expr.specs.Equality.{code_cmp, texts_code}
+use Rattle.cfgx_engine.specs.internal.Named.{code_at}
+use Rattle.cfgx_engine.proofs.NamedLemmas.{found}
+use Rattle.cfgx_engine.proofs.resolve.named.NamedPredicates.finds.Goals as goal
 
 -- the closure compares each code with that of the predicate
 pub returns : goal.returns
 returns g c =
     let key = code_at c.as_slice-buffer.result.now in
-    let asked = code c.args.asked.now in
+    let asked = texts_code c.args.asked.now in
     let searched = c.binary_search_by-found.ensures in
     rw (
       ← c.self.view_is,

@@ -6,35 +6,34 @@ ghost use Rattle.std.specs.List.Sorted.{IsPermutation, IsSorted};
 ghost use Rattle.cfg_expr.specs.Predicate.{question_of};
 
 use super::index::{Entries, ends_with};
-use super::parts::Parts;
 use cfg_expr::Predicate;
-use cfg_expr::expr::Predicates;
 use cfg_expr::expr::logic::Kleene64;
+use cfg_expr::expr::{Asked, AskedTexts, Predicates};
 use std::alloc::{AllocError, Allocator};
 use std::marker::Model;
 
-/// A predicate that facts name. `kind` and `number` are those of its `Parts`. In the buffer, its
-/// key begins at `start`, and its value directly follows.
+/// A predicate that facts name. In the buffer, its key begins at `start`, and its value directly
+/// follows.
 #[derive(Clone, Copy, Debug)]
-struct Named {
-    kind: u32,
-    number: u16,
+struct NamedPredicate {
+    asked: Asked,
     start: usize,
     key_len: usize,
     value_len: usize,
 }
 
-impl Named {
-    ghost use Rattle.cfgx_engine.specs.internal.Names.{code, code_at};
+impl NamedPredicate {
+    ghost use Rattle.cfg_expr.specs.Equality.{texts_code};
+    ghost use Rattle.cfgx_engine.specs.internal.Named.{code_at};
 
-    /// Returns the parts, whose texts lie in `buffer`.
-    fn parts(self, buffer: &[u8]) -> Parts<'_>
-        ensures { code result ≡ code_at buffer.now self }
+    /// Returns what it asks, with its texts, which lie in `buffer`.
+    #[inline(always)]
+    fn asked_texts(self, buffer: &[u8]) -> AskedTexts<'_>
+        ensures { texts_code result ≡ code_at buffer.now self }
     {
         let texts = behind(buffer, self.start);
-        Parts {
-            kind: self.kind,
-            number: self.number,
+        AskedTexts {
+            asked: self.asked,
             key: front(texts, self.key_len),
             value: front(behind(texts, self.key_len), self.value_len),
         }
@@ -42,7 +41,8 @@ impl Named {
 }
 
 /// Returns the first `len` bytes, or all if there are fewer.
-// There never are, here or in `behind`: the texts lie in the buffer, by the invariant of `Names`.
+// There never are, here or in `behind`: by the invariant of `NamedPredicates`, the texts lie in the
+// buffer.
 fn front(bytes: &[u8], len: usize) -> &[u8]
     ensures { result.now ≡ take len bytes.now }
 {
@@ -56,19 +56,20 @@ fn behind(bytes: &[u8], len: usize) -> &[u8]
     bytes.get(len..).unwrap_or(&[])
 }
 
-/// Predicates that facts name. Contracts see a `Code` for each, which has what its `Parts` have.
+/// Predicates that facts name. Contracts see a `Code` for each.
 #[derive(Drop)]
 #[derive_where(Debug)]
-pub(super) struct Names<A: Allocator> {
+pub(super) struct NamedPredicates<A: Allocator> {
     /// The texts of the predicates
     buffer: Vec<u8, A>,
-    named: Vec<Named, A>,
+    named: Vec<NamedPredicate, A>,
 }
 
-impl<A: Allocator> Model for Names<A> {
+impl<A: Allocator> Model for NamedPredicates<A> {
     ghost use Rattle.std.specs.Prelude.{length, List, map};
     ghost use Rattle.std.specs.List.{All};
-    ghost use Rattle.cfgx_engine.specs.internal.Names.{Code, IsInside, code_at};
+    ghost use Rattle.cfg_expr.specs.Equality.{Code};
+    ghost use Rattle.cfgx_engine.specs.internal.Named.{IsInside, code_at};
 
     ghost Value = { List Code };
 
@@ -77,18 +78,18 @@ impl<A: Allocator> Model for Names<A> {
     ghost invariant = { λ names. All (IsInside (length names.buffer.items)) names.named.items };
 }
 
-impl<A: Allocator> Names<A> {
+impl<A: Allocator> NamedPredicates<A> {
     ghost use Rattle.cfgx_syntax.specs.Kleene.{lane};
     ghost use Rattle.cfgx_engine.specs.internal.Index.{TellsEach};
-    ghost use Rattle.cfgx_engine.specs.internal.Names.{code, code_cmp, code_of};
+    ghost use Rattle.cfg_expr.specs.Equality.{code_cmp, question_code, texts_code};
 
     /// Makes an empty list. Takes no memory.
-    pub(super) fn new(alloc: A) -> Names<A>
+    pub(super) fn new(alloc: A) -> NamedPredicates<A>
     where
         A: Copy,
         ensures { result ≡ [] }
     {
-        Names {
+        NamedPredicates {
             buffer: Vec::new(alloc),
             named: Vec::new(alloc),
         }
@@ -104,7 +105,7 @@ impl<A: Allocator> Names<A> {
     /// Adds predicates, and copies their texts.
     pub(super) fn add(&mut self, predicates: Predicates<'_>) -> Result<(), AllocError>
         ensures { OnOk result
-            (self.new ≡ self.old ++ map code_of predicates.entry) }
+            (self.new ≡ self.old ++ map question_code predicates.entry) }
     {
         for predicate in predicates {
             self.push(&predicate)?;
@@ -115,18 +116,17 @@ impl<A: Allocator> Names<A> {
     /// Adds a predicate.
     fn push(&mut self, predicate: &Predicate<'_>) -> Result<(), AllocError>
         ensures { OnOk result
-            (self.new ≡ self.old ++ code_of (question_of predicate.now) ∷ []) }
+            (self.new ≡ self.old ++ question_code (question_of predicate.now) ∷ []) }
     {
-        let parts = Parts::of(predicate);
+        let AskedTexts { asked, key, value } = predicate.asked_texts();
         let start = self.buffer.len();
-        self.buffer.extend_from_slice(parts.key)?;
-        self.buffer.extend_from_slice(parts.value)?;
-        self.named.push(Named {
-            kind: parts.kind,
-            number: parts.number,
+        self.buffer.extend_from_slice(key)?;
+        self.buffer.extend_from_slice(value)?;
+        self.named.push(NamedPredicate {
+            asked,
             start,
-            key_len: parts.key.len(),
-            value_len: parts.value.len(),
+            key_len: key.len(),
+            value_len: value.len(),
         })?;
         Ok(())
     }
@@ -137,30 +137,32 @@ impl<A: Allocator> Names<A> {
         ensures sorted { IsSorted code_cmp self.new }
     {
         let buffer = self.buffer.as_slice();
-        self.named.sort_unstable_by(|one, other| one.parts(buffer).compare(&other.parts(buffer)));
+        self.named.sort_unstable_by(|one, other| one
+            .asked_texts(buffer)
+            .cmp(&other.asked_texts(buffer)));
     }
 
-    /// Whether the predicate with the parts `asked` was added. Those that were added have to be
+    /// Whether the predicate that asks `asked` was added. Those that were added have to be
     /// sorted.
     // Inlined, so that an empty list costs no call.
     #[inline(always)]
-    pub(super) fn has(&self, asked: &Parts<'_>) -> bool
+    pub(super) fn has(&self, asked: &AskedTexts<'_>) -> bool
         requires { IsSorted code_cmp self.now }
-        ensures { IsTrue result ↔ Contains self.now (code asked.now) }
+        ensures { IsTrue result ↔ Contains self.now (texts_code asked.now) }
     {
         !self.is_empty() && self.finds(asked)
     }
 
-    /// Whether a binary search finds the predicate with the parts `asked`. Those that were added
+    /// Whether a binary search finds the predicate that asks `asked`. Those that were added
     /// have to be sorted.
-    fn finds(&self, asked: &Parts<'_>) -> bool
+    fn finds(&self, asked: &AskedTexts<'_>) -> bool
         requires { IsSorted code_cmp self.now }
-        ensures { IsTrue result ↔ Contains self.now (code asked.now) }
+        ensures { IsTrue result ↔ Contains self.now (texts_code asked.now) }
     {
         let buffer = self.buffer.as_slice();
         let found = self
             .named
-            .binary_search_by(|named| named.parts(buffer).compare(asked));
+            .binary_search_by(|named| named.asked_texts(buffer).cmp(asked));
         found.is_ok()
     }
 
@@ -180,7 +182,7 @@ impl<A: Allocator> Names<A> {
         let mut names = Vec::with_capacity(alloc, all.len())?;
         let mut answered = Vec::with_capacity(alloc, all.len())?;
         for named in all {
-            let asked = named.parts(buffer);
+            let asked = named.asked_texts(buffer);
             // A predicate that several facts name stands more than once.
             if ends_with(names.as_slice(), &asked) {
                 continue;

@@ -2,7 +2,7 @@
 use Rattle.std.proofs.Common.{take}
 use Rattle.cfgx_syntax.specs.Kleene.{lane}
 use Rattle.cfgx_engine.proofs.IndexLemmas.{Lists}
-use Rattle.cfgx_engine.proofs.resolve.names.Names.entries.Given as goal
+use Rattle.cfgx_engine.proofs.resolve.named.NamedPredicates.entries.Given as goal
 
 abbrev pub invariant-loop-named : goal.invariant-loop-named
 invariant-loop-named g l =
