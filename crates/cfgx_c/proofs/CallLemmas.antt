@@ -12,7 +12,8 @@ use Rattle.std.specs.Str.{IsUtf8}
 use Rattle.cfgx_syntax.specs.Stripping.{strip}
 use Rattle.cfgx_grammar.proofs.Answering.{only_tree}
 use Rattle.cfgx_grammar.specs.{Question.Question, Tree.asked}
-use Rattle.cfg_expr.proofs.stepped.{Forests.HasValue-one, Numbers.{AreCounted-steps, HasValue-steps}}
+use Rattle.cfg_expr.proofs.stepped.Forests.{HasValue-one}
+use Rattle.cfg_expr.proofs.stepped.Numbers.{AreCounted-steps, HasValue-steps}
 use Rattle.cfg_expr.specs.Filling.{three_valued}
 use Rattle.cfg_expr.specs.Fold.{tree_fold}
 use Rattle.cfg_expr.specs.Steps.{HasValue, steps_of}
@@ -59,7 +60,8 @@ Applies-compiled text answers old_steps new_steps steps_needed old_predicates ne
     (omega (arith, compiles.predicates_needed_is, other_fits))) in
     record {
       counted = sym (length-map answers answer_of)
-          ∙ AreCounted-steps tree (map answer_of answers) counted ∙ sym (count-c_steps (steps_of tree))
+          ∙ AreCounted-steps tree (map answer_of answers) counted
+          ∙ sym (count-c_steps (steps_of tree))
           ∙ ap (count_by is_c_ask) seen_are;
       of = tree_fold three_valued tree (map answer_of answers);
       has = record {

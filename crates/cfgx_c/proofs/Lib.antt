@@ -3,9 +3,9 @@ pub mod BufferLemmas
 pub mod CallLemmas
 pub mod CSteps
 pub mod DecideLemmas
-pub mod Described
 pub mod EndsLemmas
 pub mod RefusalLemmas
 pub mod SpanLemmas
+pub mod StrippedParts
 pub mod TokenLemmas
 pub mod Utf8Lemmas

@@ -23,7 +23,7 @@ use Rattle.cfgx_c.specs.Tokens.{ListsTokens, Shows, TellsLexical, c_token}
 use Rattle.cfgx_c.specs.declared.{fault.CfgxFault.CfgxFault, tokens.CfgxToken.CfgxToken}
 use Rattle.cfgx_c.specs.internal.Lexing.{AreTokens, HasTokenCount, HasTokens}
 use Rattle.cfgx_c.specs.internal.Refusals.{fault_at}
-use Rattle.cfgx_c.proofs.Described.{part_of_stripped}
+use Rattle.cfgx_c.proofs.StrippedParts.{part_of_stripped}
 
 -- the lexer of the text has come to this place, behind the items that the tokens show
 pub record Reads (text : List ℕ) (tokens : List CfgxToken) (now : LexerState) : Type 0 where

@@ -1,33 +1,22 @@
 -- What `cfgx_predicates` lists.
 -- Source: include/cfgx.h.
-use Rattle.std.specs.Prelude.{◌≡◌, ◌≤◌, ◌+◌, ℕ, List, Option, Some, None, length, map}
-use Rattle.std.specs.Prelude.{slice_range}
-use Rattle.std.specs.List.{AllZip}
-use Rattle.cfgx_syntax.specs.Spans.{LiesIn}
+use Rattle.std.specs.Prelude.{◌≡◌, ◌+◌, ℕ, List, Option, Some, None, map, unwrap_or}
+use Rattle.cfgx_fields.specs.declared.atomic.HasAtomic.TheVariants.{Pointer}
 use Rattle.cfgx_syntax.specs.Stripping.{strip, strip_offset}
-use Rattle.cfgx_grammar.specs.Answer.{HasOneTree}
-use Rattle.cfgx_grammar.specs.Question.{Question}
-use Rattle.cfgx_grammar.specs.Tree.{asked}
-use Rattle.cfgx_parser.specs.Kinds.{kind_number, kind_of}
-use Rattle.cfgx_parser.specs.declared.nodes.Span.{Span}
-use Rattle.cfg_expr.specs.Located.{AreLocated, key_with_span, predicate_number, value_with_span}
-use Rattle.cfg_expr.specs.declared.expr.located.LocatedPredicate.{LocatedPredicate}
+use Rattle.cfgx_parser.specs.Asked.{asked_number, kind_number}
+use Rattle.cfgx_parser.specs.Located.{key_span, value_span, whole_span}
+use Rattle.cfgx_parser.specs.declared.asked.Asked.{Asked}
+use Rattle.cfgx_parser.specs.declared.asked.Asked.TheVariants as asked
+use Rattle.cfgx_parser.specs.declared.asked.AskedTarget.TheVariants as target
+use Rattle.cfgx_parser.specs.declared.located.LocatedPredicate.{LocatedPredicate}
+use Rattle.cfgx_parser.specs.declared.located.Span.{Span}
+use Rattle.cfg_expr.specs.Located.{AreLocated}
 use Rattle.cfgx_c.specs.declared.predicates.CfgxPredicate.{CfgxPredicate}
 
--- these bytes stand at `start..end` of the text; if there are none, both are 0
-abbrev pub IsSpanOf : List ℕ → Option (List ℕ) → ℕ → ℕ → Type 0
-IsSpanOf text None start end = (start ≡ 0) × (end ≡ 0)
-IsSpanOf text (Some bytes) start end = (start ≤ end) × (end ≤ length text)
-    × (slice_range text start end ≡ bytes)
-
--- the predicate describes the question, with spans in the text, and lies in the text
-pub record Describes (text : List ℕ) (question : Question) (predicate : CfgxPredicate) : Type 0
-  where
-    pub kind : predicate.kind ≡ kind_number (kind_of question)
-    pub number : predicate.number ≡ predicate_number question
-    pub key : IsSpanOf text (key_with_span question) predicate.key_start predicate.key_end
-    pub value : IsSpanOf text (value_with_span question) predicate.value_start predicate.value_end
-    pub lies : LiesIn text predicate.start predicate.end
+-- the number of what is asked, that above all others for an atomic of the width `ptr`, or 0
+abbrev pub c_number : Asked → ℕ
+c_number (asked.Target (target.HasAtomic Pointer)) = 65536
+c_number one = unwrap_or (asked_number one) 0
 
 -- the span with `offset` more bytes before it
 abbrev pub moved : ℕ → Span → Span
@@ -38,26 +27,21 @@ abbrev pub moved_or_none : ℕ → Option Span → Span
 moved_or_none offset None = record { start = 0; end = 0 }
 moved_or_none offset (Some span) = moved offset span
 
--- the predicate as C sees it; `offset` bytes were stripped before the text
+-- the predicate as C sees it; `offset` bytes were stripped before its text
 abbrev pub c_predicate : ℕ → LocatedPredicate → CfgxPredicate
-c_predicate offset predicate = record {
-  kind = kind_number predicate.kind;
-  number = predicate.number;
-  start = (moved offset predicate.span).start;
-  end = (moved offset predicate.span).end;
-  key_start = (moved_or_none offset predicate.key).start;
-  key_end = (moved_or_none offset predicate.key).end;
-  value_start = (moved_or_none offset predicate.value).start;
-  value_end = (moved_or_none offset predicate.value).end;
+c_predicate offset one = record {
+  kind = kind_number one.asked;
+  number = c_number one.asked;
+  start = (whole_span one).start + offset;
+  end = (whole_span one).end + offset;
+  key_start = (moved_or_none offset (key_span one.asked one.key)).start;
+  key_end = (moved_or_none offset (key_span one.asked one.key)).end;
+  value_start = (moved_or_none offset (value_span one.asked one.value)).start;
+  value_end = (moved_or_none offset (value_span one.asked one.value)).end;
 }
 
--- the predicates have the spans of those of the stripped text, moved by what was stripped
-abbrev pub AreInPlace : List ℕ → List CfgxPredicate → Type 0
-AreInPlace text predicates = (located : List LocatedPredicate) × AreLocated (strip text) located
-    × (predicates ≡ map (c_predicate (strip_offset text)) located)
-
--- the predicates describe what the text's one tree asks, in this order, each where it stands
+-- the predicates are those of the stripped text where they stand, with spans in the text as passed
 pub record ListsPredicates (text : List ℕ) (predicates : List CfgxPredicate) : Type 0 where
-  pub one : HasOneTree (strip text)
-  pub each : AllZip (Describes text) (asked one.tree) predicates
-  pub in_place : AreInPlace text predicates
+  pub located : List LocatedPredicate
+  pub are_located : AreLocated (strip text) located
+  pub listed : predicates ≡ map (c_predicate (strip_offset text)) located

@@ -37,7 +37,7 @@ fn answer_of(byte: u8) -> Option<bool>
 /// Returns the answers in `bytes`. Takes no memory for up to 33 answers.
 ///
 /// The error is that `alloc` refused memory.
-pub(crate) fn answers_of<'a>(
+pub(crate) fn answers_in<'a>(
     alloc: &'a Global,
     bytes: &[u8],
 ) -> Result<SmallVec<Option<bool>, 33, &'a Global>, AllocError>

@@ -11,7 +11,7 @@ ghost use Rattle.cfgx_c.specs.Decide.{DecidesOver, both_fillings};
 ghost use Rattle.cfgx_c.specs.Status.{IsOneOf, done, faulty, miscounted, not_utf8, out_of_memory};
 ghost use Rattle.cfgx_c.specs.Value.{HasOtherCount, answer_of, byte_of_value};
 
-use crate::bytes::{answers_of, byte_of_value, eval_over_bytes};
+use crate::bytes::{answers_in, byte_of_value, eval_over_bytes};
 use crate::fault::CfgxFault;
 use crate::reading::read_answered;
 use crate::status::{DONE, OUT_OF_MEMORY};
@@ -38,7 +38,7 @@ fn fill_fillings(
     if needed > buffer.len() {
         return Ok(needed);
     }
-    let answers = answers_of(&alloc, answers)?;
+    let answers = answers_in(&alloc, answers)?;
     let (if_true, rest) = buffer.split_at_mut(count);
     condition.write_fillings(alloc, answers.as_slice(), if_true, &mut rest[..count])?;
     Ok(needed)

@@ -1,14 +1,15 @@
 //! The predicates of a condition as C sees them.
 
 ghost use Rattle.std.specs.Prelude.{◌≡◌, ◌≢◌, ◌≤◌, ◌<◌, ◌+◌, ◌^◌, ◌++◌, ℕ, List, []};
-ghost use Rattle.std.specs.Prelude.{◌∷◌, IfErr, IfOk, OnErr, drop, length, map};
+ghost use Rattle.std.specs.Prelude.{◌∷◌, IfErr, IfOk, IfSome, OnErr, drop, length, map};
 ghost use Rattle.std.specs.Str.{IsUtf8};
 ghost use Rattle.cfgx_syntax.specs.Stripping.{strip, strip_offset};
-ghost use Rattle.cfgx_grammar.specs.Question.{Question};
-ghost use Rattle.cfg_expr.specs.Located.{AreLocated, IsSpanIfAny, Locates};
+ghost use Rattle.cfgx_parser.specs.Located.{HasCut};
+ghost use Rattle.cfg_expr.specs.Located.{AreLocated};
 ghost use Rattle.cfgx_c.specs.Buffer.{Fills};
 ghost use Rattle.cfgx_c.specs.Faults.{Tells};
-ghost use Rattle.cfgx_c.specs.Predicates.{ListsPredicates, c_predicate, moved, moved_or_none};
+ghost use Rattle.cfgx_c.specs.Predicates.{ListsPredicates, c_number, c_predicate, moved};
+ghost use Rattle.cfgx_c.specs.Predicates.{moved_or_none};
 ghost use Rattle.cfgx_c.specs.Status.{IsOneOf, done, faulty, not_utf8, out_of_memory};
 ghost use Rattle.cfgx_c.specs.declared.predicates.CfgxPredicate.{CfgxPredicate};
 ghost use Rattle.cfgx_c.specs.internal.Refusals.{RefusesText, text_statuses};
@@ -16,7 +17,10 @@ ghost use Rattle.cfgx_c.specs.internal.Refusals.{RefusesText, text_statuses};
 use crate::fault::{CfgxFault, Refusal};
 use crate::reading::{read_condition, read_text};
 use crate::status::DONE;
-use cfg_expr::expr::{ConditionReader, LocatedPredicate, LocatedPredicates, Span};
+use cfg_expr::expr::{
+    Asked, AskedTarget, ConditionReader, LocatedPredicate, LocatedPredicates, Span,
+};
+use cfg_expr::targets::HasAtomic;
 use cfgx_syntax::stripping::strip;
 use std::alloc::Global;
 
@@ -57,7 +61,8 @@ fn moved(span: Span, offset: usize) -> Span
 
 /// Returns `span` moved by `offset` bytes, or that from 0 to 0 if there is none.
 fn moved_or_none(span: Option<Span>, offset: usize) -> Span
-    requires { (text : List ℕ) × IsSpanIfAny text span × (length text + offset < 2 ^ 64) }
+    requires { IfSome span (λ span.
+        (span.start + offset < 2 ^ 64) × (span.end + offset < 2 ^ 64)) }
     ensures { result ≡ moved_or_none offset span }
 {
     match span {
@@ -66,18 +71,27 @@ fn moved_or_none(span: Option<Span>, offset: usize) -> Span
     }
 }
 
+/// Returns the number of what is asked, 65536 for an atomic of the width `ptr`, or 0.
+fn c_number(asked: Asked) -> u32
+    ensures { result ≡ c_number asked }
+{
+    match asked {
+        Asked::Target(AskedTarget::HasAtomic(HasAtomic::Pointer)) => 65536,
+        _ => asked.number().unwrap_or(0),
+    }
+}
+
 /// Returns a predicate as C sees it. `offset` bytes were stripped before the text.
 fn c_predicate(predicate: LocatedPredicate, offset: usize) -> CfgxPredicate
-    requires { (text : List ℕ) × (question : Question) × Locates text question predicate
-        × (length text + offset < 2 ^ 64) }
+    requires { (text : List ℕ) × HasCut text predicate × (length text + offset < 2 ^ 64) }
     ensures { result ≡ c_predicate offset predicate }
 {
-    let whole = moved(predicate.span, offset);
-    let key = moved_or_none(predicate.key, offset);
-    let value = moved_or_none(predicate.value, offset);
+    let whole = moved(predicate.span(), offset);
+    let key = moved_or_none(predicate.key_span(), offset);
+    let value = moved_or_none(predicate.value_span(), offset);
     CfgxPredicate {
-        kind: predicate.kind.number(),
-        number: predicate.number,
+        kind: predicate.asked.kind(),
+        number: c_number(predicate.asked),
         start: whole.start,
         end: whole.end,
         key_start: key.start,

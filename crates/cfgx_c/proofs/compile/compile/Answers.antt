@@ -1,5 +1,5 @@
 -- The steps and the predicates are those of the text's one tree.
-use Rattle.std.proofs.Common.{◌≡◌, ◌≤◌, ◌∙◌, ap, arith, length, map, sym}
+use Rattle.std.proofs.Common.{◌≡◌, ◌≤◌, ◌∙◌, ap, arith, length, map, refl, sym}
 use Rattle.std.proofs.lemmas.Grind.{common_steps}
 use Rattle.std.proofs.lemmas.List.{length-map}
 use Rattle.cfgx_grammar.proofs.Answering.{only_tree}
@@ -8,7 +8,6 @@ use Rattle.cfgx_syntax.specs.Stripping.{strip_offset}
 use Rattle.cfg_expr.specs.Steps.{steps_of}
 use Rattle.cfgx_c.specs.{Predicates.c_predicate, Steps.c_step}
 use Rattle.cfgx_c.proofs.BufferLemmas.{FillsBoth-room}
-use Rattle.cfgx_c.proofs.Described.{ListsPredicates-located}
 use Rattle.cfgx_c.proofs.compile.compile.Goals as goal
 
 pub write_predicates-requires-clause-located : goal.write_predicates-requires-clause-located
@@ -36,7 +35,7 @@ returns-then-step_count-steps-clause-ok c =
       record {
         one = counted.0;
         predicates = map show predicates;
-        lists = ListsPredicates-located c.args.text.now predicates located;
+        lists = record { located = predicates; are_located = located; listed = refl };
         fills = let either = c.then-step_count-steps.either in grind (arith, common_steps);
         steps_needed_is = counted.1;
         few = few;
@@ -69,7 +68,7 @@ returns-clause-ok c =
       record {
         one = wrote.0;
         predicates = map show predicates;
-        lists = ListsPredicates-located c.args.text.now predicates located;
+        lists = record { located = predicates; are_located = located; listed = refl };
         fills = rw (wrote.1, many, shown) (FillsBoth-room steps c.args.steps.now
             (map show predicates) c.args.predicates.now (omega (arith, many))
             (omega (arith, count)));

@@ -6,7 +6,6 @@ use Rattle.cfgx_c.proofs.laws.predicates_are_listed_once.Goals as goal
 
 pub returns : goal.returns
 returns c text list others this that =
-    let (located, here, is) = this.in_place in
-    let (other, there, other_is) = that.in_place in
-    let same = located_once (strip text) located other here there in
-    is ∙ ap (map (c_predicate (strip_offset text))) same ∙ sym other_is
+    let same = located_once (strip text) this.located that.located this.are_located
+    that.are_located in
+    this.listed ∙ ap (map (c_predicate (strip_offset text))) same ∙ sym that.listed

@@ -1,9 +1,8 @@
 -- The predicates are those of the text's one tree, with spans in the stripped text.
-use Rattle.std.proofs.Common.{arith, map}
+use Rattle.std.proofs.Common.{arith, map, refl}
 use Rattle.std.proofs.lemmas.Grind.{common_steps}
 use Rattle.cfgx_syntax.specs.Stripping.{strip_offset}
 use Rattle.cfgx_c.specs.Predicates.{c_predicate}
-use Rattle.cfgx_c.proofs.Described.{ListsPredicates-located}
 use Rattle.cfgx_c.proofs.predicates.fill_predicates.Goals as goal
 
 pub write_predicates-requires-clause-located : goal.write_predicates-requires-clause-located
@@ -20,7 +19,7 @@ returns-then-needed-buffer-clause-ok c =
     let show = c_predicate (strip_offset c.args.text.now) in (
       text.1,
       map show predicates,
-      ListsPredicates-located c.args.text.now predicates located,
+      record { located = predicates; are_located = located; listed = refl },
       grind (arith, common_steps),
     )
 
@@ -35,6 +34,6 @@ returns-clause-ok c =
     let wrote = rw (text.0, ← c.left-needed.ensures) at c.write_predicates.ensures in (
       text.1,
       map show predicates,
-      ListsPredicates-located c.args.text.now predicates located,
+      record { located = predicates; are_located = located; listed = refl },
       grind (arith, common_steps),
     )

@@ -3,18 +3,30 @@ use Rattle.std.proofs.Common.{◌∙◌, ◌<◌, ◌∷◌, ◌++◌, [], appen
 use Rattle.std.proofs.Common.{arith, refl}
 use Rattle.std.proofs.Common.{drop, length, map}
 use Rattle.std.proofs.lemmas.List.{length-append}
+use Rattle.std.proofs.Common.{ℕ, List}
+use Rattle.std.specs.List.{AllByRecursion, AllZip}
 use Rattle.cfgx_syntax.specs.Stripping.{strip}
+use Rattle.cfgx_grammar.specs.Question.{Question}
+use Rattle.cfgx_parser.specs.Located.{HasCut}
+use Rattle.cfgx_parser.specs.declared.located.LocatedPredicate.{LocatedPredicate}
+use Rattle.cfg_expr.specs.Located.{Locates}
 use Rattle.cfgx_c.specs.Predicates.{c_predicate}
 use Rattle.cfg_expr.proofs.Written.{written_next}
-use Rattle.cfgx_c.proofs.Described.{located_each}
 use Rattle.cfgx_c.proofs.predicates.write_predicates.Goals as goal
+
+-- the text can be cut at the spans of each predicate
+cuts_each : (text : List ℕ) (questions : List Question) (located : List LocatedPredicate)
+    → AllZip (Locates text) questions located → AllByRecursion (HasCut text) located
+cuts_each text [] [] are = tt
+cuts_each text (question ∷ questions) (p ∷ located) (is, are) =
+    (is.cut, cuts_each text questions located are)
+cuts_each text _ _ are = absurd are
 
 pub c_predicate-requires : goal.c_predicate-requires
 c_predicate-requires c =
-    let located = rw c.in-Some.ensures.steps at c.loop-predicate.invariant.located in (
+    let cuts = rw c.in-Some.ensures.steps at c.loop-predicate.invariant.cuts in (
       strip c.args.text.now,
-      located.0.0,
-      located.0.1,
+      cuts.0,
       omega (arith, ap length c.strip-offset.ensures.text, c.strip-offset.ensures.stands.1),
     )
 
@@ -24,15 +36,15 @@ loop-predicate-init c = record {
   whole = refl;
   count = refl;
   shown = refl;
-  located = rw c.into_iter-predicate-iterator.ensures.into_iter_gives
-      (located_each (strip c.args.text.now) _ c.args.predicates c.requires.located.each);
+  cuts = rw c.into_iter-predicate-iterator.ensures.into_iter_gives
+      (cuts_each (strip c.args.text.now) _ c.args.predicates c.requires.located.each);
 }
 
 pub loop-predicate-preserved : goal.loop-predicate-preserved
 loop-predicate-preserved c =
     let so_far = c.loop-predicate.invariant in
     let offset = c.strip-offset.result.offset in
-    let located = rw c.in-Some.ensures.steps at so_far.located in
+    let cuts = rw c.in-Some.ensures.steps at so_far.cuts in
     let whole = rw c.in-Some.ensures.steps at so_far.whole in
     let long = ap length whole in
     let inside : c.loop-predicate.written < length c.args.buffer.now = omega (
@@ -50,7 +62,7 @@ loop-predicate-preserved c =
       shown = rw c.c_predicate.ensures (written_next (c_predicate offset) so_far.front
           c.in-Some.predicate c.args.buffer.now c.loop-predicate.buffer c.loop-predicate.written
           so_far.count inside so_far.shown);
-      located = located.1;
+      cuts = cuts.1;
     }
 
 pub returns : goal.returns

@@ -1,10 +1,9 @@
--- The predicates so far were written, and those that are left have spans in the text.
+-- The predicates so far were written, and the text can be cut at the spans of those that are left.
 use Rattle.std.proofs.Common.{◌≡◌, ◌++◌, ℕ, List, drop, length, map}
 use Rattle.std.specs.List.{AllByRecursion}
-use Rattle.cfgx_grammar.specs.Question.{Question}
 use Rattle.cfgx_syntax.specs.Stripping.{strip}
-use Rattle.cfg_expr.specs.Located.{Locates}
-use Rattle.cfg_expr.specs.declared.expr.located.LocatedPredicate.{LocatedPredicate}
+use Rattle.cfgx_parser.specs.Located.{HasCut}
+use Rattle.cfgx_parser.specs.declared.located.LocatedPredicate.{LocatedPredicate}
 use Rattle.cfgx_c.specs.Predicates.{c_predicate}
 use Rattle.cfgx_c.specs.declared.predicates.CfgxPredicate.{CfgxPredicate}
 use Rattle.cfgx_c.proofs.predicates.write_predicates.Given as goal
@@ -15,7 +14,7 @@ pub record Invariant (text : List ℕ) (all left : List LocatedPredicate) (offse
   pub whole : front ++ left ≡ all
   pub count : written ≡ length front
   pub shown : buffer ≡ map (c_predicate offset) front ++ drop written old
-  pub located : AllByRecursion (λ p. (question : Question) × Locates (strip text) question p) left
+  pub cuts : AllByRecursion (HasCut (strip text)) left
 
 abbrev pub invariant-loop-predicate : goal.invariant-loop-predicate
 invariant-loop-predicate l = Invariant l.text l.initial.predicate-iterator l.predicate-iterator

@@ -1,6 +1,6 @@
 use Rattle.std.proofs.Common.{◌≡◌, ◌≤◌, length, map, take}
 use Rattle.cfgx_c.specs.Value.{answer_of}
-use Rattle.cfgx_c.proofs.bytes.answers_of.Given as goal
+use Rattle.cfgx_c.proofs.bytes.answers_in.Given as goal
 
 -- the answers so far were pushed, and there is room for all
 abbrev pub invariant-loop-byte : goal.invariant-loop-byte
