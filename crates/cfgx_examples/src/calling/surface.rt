@@ -13,7 +13,7 @@ use cfg_expr::targets::{Endian, Families, Family, HasAtomic, HasAtomicFailure, H
 use cfgx_engine::engine::laws::{has_an_output, has_one_output};
 use cfgx_engine::engine::streams::write_whole;
 use cfgx_fields::reading::{read_endian, read_has_atomic, read_u8, read_u16};
-use cfgx_parser::kinds::laws::kinds_have_different_numbers;
+use cfgx_parser::asked::laws::numbers_tell_what_is_asked;
 use cfgx_syntax::error::laws::{
     lists_have_different_numbers, numbers_name_the_reason, reasons_have_different_numbers,
 };
@@ -132,7 +132,7 @@ fn call_laws() {
     reasons_have_different_numbers();
     lists_have_different_numbers();
     numbers_name_the_reason();
-    kinds_have_different_numbers();
+    numbers_tell_what_is_asked();
     has_an_output();
     has_one_output();
 }

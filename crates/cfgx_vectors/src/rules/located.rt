@@ -1,6 +1,7 @@
 //! Predicates where they stand, in the order in which `located_predicates` returns them.
 use cfg_expr::Expression;
-use cfg_expr::expr::{LocatedPredicate, LocatedPredicates, Span};
+use cfg_expr::expr::{Asked, AskedTarget, LocatedPredicate, LocatedPredicates, Span};
+use cfg_expr::targets::HasAtomic;
 use cfgx_testing::rows::{Finding, compare, fail, require};
 use std::alloc::{AllocError, Global};
 
@@ -12,14 +13,34 @@ fn span_text(alloc: Global, name: &str, span: Option<Span>) -> Result<String, Al
     }
 }
 
+// Returns the kind of a predicate as rows write it.
+fn kind_text(alloc: Global, asked: Asked) -> Result<String, AllocError> {
+    match asked {
+        Asked::Target(AskedTarget::Text(key)) => format!(in alloc; "Text({key:?})"),
+        Asked::Target(AskedTarget::Endian(_)) => String::from_str(alloc, "Endian"),
+        Asked::Target(AskedTarget::HasAtomic(_)) => String::from_str(alloc, "HasAtomic"),
+        Asked::Target(AskedTarget::PointerWidth(_)) => String::from_str(alloc, "PointerWidth"),
+        other => format!(in alloc; "{other:?}"),
+    }
+}
+
+// Returns the number of a predicate as rows write it.
+fn number_of(asked: Asked) -> u32 {
+    match asked {
+        Asked::Target(AskedTarget::HasAtomic(HasAtomic::Pointer)) => 65536,
+        _ => asked.number().unwrap_or(0),
+    }
+}
+
 // Returns the predicate as rows write it: its kind, its number, the span of the whole, and those of
 // its key and its value.
 fn predicate_text(alloc: Global, predicate: &LocatedPredicate) -> Result<String, AllocError> {
-    let (kind, number) = (predicate.kind, predicate.number);
-    let Span { start, end } = predicate.span;
-    let key = span_text(alloc, "key", predicate.key)?;
-    let value = span_text(alloc, "value", predicate.value)?;
-    format!(in alloc; "{kind:?} {number} at {start}..{end}{key}{value}")
+    let kind = kind_text(alloc, predicate.asked)?;
+    let number = number_of(predicate.asked);
+    let Span { start, end } = predicate.span();
+    let key = span_text(alloc, "key", predicate.key_span())?;
+    let value = span_text(alloc, "value", predicate.value_span())?;
+    format!(in alloc; "{kind} {number} at {start}..{end}{key}{value}")
 }
 
 // Returns the next predicate as rows write it.
