@@ -3,17 +3,7 @@
 #include "cfgx.h"
 
 #ifdef CALLS
-#undef cfgx_check
-#undef cfgx_explain
-#undef cfgx_predicates
-#undef cfgx_value
-#undef cfgx_decide
-#undef cfgx_answers
-#undef cfgx_compile
-#undef cfgx_apply
-#undef cfgx_audit
-#undef cfgx_tokens
-#undef cfgx_run
+#include "calls.h"
 #endif
 
 /* What the calls are passed. Nothing runs them. */

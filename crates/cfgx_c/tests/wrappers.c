@@ -120,17 +120,7 @@ static uint32_t record(const struct argument *arguments, size_t count)
 }
 
 /* The calls have their own names below. */
-#undef cfgx_check
-#undef cfgx_explain
-#undef cfgx_predicates
-#undef cfgx_value
-#undef cfgx_decide
-#undef cfgx_answers
-#undef cfgx_compile
-#undef cfgx_apply
-#undef cfgx_audit
-#undef cfgx_tokens
-#undef cfgx_run
+#include "calls.h"
 
 #define RECORD(...)                                                                                \
     const struct argument arguments[] = {__VA_ARGS__};                                             \
