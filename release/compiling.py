@@ -7,15 +7,19 @@ from typing import Callable, Dict, List, NamedTuple, Tuple
 import repository
 from modules import Module, tool
 from repository import ROOT, ToolError, output_of
-from targets import COFF, COMPILED, ELF, INSTALLED, MACHO, WASM, X86, Platform
+from targets import (
+    COFF, ELF, MACHO, WASM, WINDOWS_GNU, WINDOWS_MSVC, X86, X86_LINUX, Platform,
+)
 
 HERE = os.path.join(ROOT, "release/runtime")
+# What Debian says of the licences of MinGW-w64, of which a program for Windows holds a part.
+MINGW_NOTICE = "/usr/share/doc/mingw-w64-x86-64-dev/copyright"
 # What two words are returned as, by the target of a module. Both types stand for two registers.
 PAIRS = {True: "{ i64, i64 }", False: "[2 x i64]"}
 # The functions of the heap, which a module declares.
 HEAP = ("rattle_alloc", "rattle_realloc", "rattle_dealloc")
 DECLARATION = r"^declare (?P<answer>.*?) @{name}\((?P<takes>.*?)\).*\n"
-DEFINITION = r"^define internal (?P<answer>.*?) @{name}\((?P<takes>.*?)\)"
+DEFINITION = r"^define internal (?P<answer>.*?) @{name}\((?P<takes>[^)]*)\)"
 
 # What the kit says of functions for Linux and another platform does otherwise.
 PROBE = re.compile(r' "probe-stack"="[^"]*"')
@@ -38,7 +42,7 @@ def signature(form: str, name: str, text: str) -> Tuple[str, List[str]]:
     found = re.search(form.format(name=name), text, re.M)
     if not found:
         raise ToolError(f"there is no {name} where the heap and the module meet")
-    takes = [re.split(r" noundef| %", one)[0] for one in found["takes"].split(", ") if one]
+    takes = [re.split(r" noundef| %", one)[0] for one in re.split(r",\s+", found["takes"]) if one]
     return found["answer"], takes
 
 
@@ -86,7 +90,7 @@ def words_for(module: Module, platform: Platform) -> List[str]:
 
 def compiled(module: Module, platform: Platform, folder: str) -> Compiled:
     """Returns the object of a module for a platform: with a heap in it, unless the kit has one."""
-    is_whole = platform == INSTALLED
+    is_whole = platform == X86_LINUX
     text = module.text if is_whole else moved(with_heap(module, platform.checked), platform)
     source, path = (os.path.join(folder, f"cfgx.{kind}") for kind in ("ll", "o"))
     with open(source, "w", encoding="utf-8") as file:
@@ -131,8 +135,8 @@ def link_coff(platform: Platform, made: Compiled, folder: str) -> None:
     dlltool, runtime = os.path.join(room, "llvm-dlltool"), os.path.join(room, "msvcrt.lib")
     os.symlink(tool("llvm-ar"), dlltool)
     output_of(dlltool, "-m", "i386:x86-64", "-d", os.path.join(HERE, "msvcrt.def"), "-l", runtime)
-    output_of(tool("ld.lld"), "-flavor", "link", "/lldmingw", "/dll", "/noentry", "/machine:x64", "/Brepro",
-              "/nodefaultlib", "/dynamicbase", "/highentropyva", "/nxcompat",
+    output_of(tool("ld.lld"), "-flavor", "link", "/lldmingw", "/dll", "/noentry", "/machine:x64",
+              "/Brepro", "/nodefaultlib", "/dynamicbase", "/highentropyva", "/nxcompat",
               *(f"/export:{call}" for call in calls()), f"/out:{out}",
               f"/implib:{os.path.join(folder, platform.imports[0])}", made.path, runtime)
 
@@ -170,12 +174,21 @@ LINKERS: Dict[str, Callable[[Platform, Compiled, str], None]] = {
 }
 
 
-def link_imports(folder: str) -> None:
-    """Copies what a linker takes in place of the library for Windows to where each of both linkers
-    looks for it: both read the same."""
-    gnu, msvc = (one for one in COMPILED if one.form == COFF)
-    shutil.copy(os.path.join(folder, gnu.triple, gnu.imports[0]),
-                os.path.join(folder, msvc.triple, msvc.imports[0]))
+def link_program(platform: Platform, folder: str) -> None:
+    """Makes the program of a platform over its archive, with the notice of what is linked with
+    it on Windows."""
+    output_of(*platform.compiler, "-std=c99", "-D_POSIX_C_SOURCE=200809L", "-O2", "-s", "-I",
+              "crates/cfgx_c/include", "-o", os.path.join(folder, platform.program),
+              "crates/cfgx_c/examples/cfgx.c", os.path.join(folder, platform.archive))
+    if platform == WINDOWS_GNU:
+        shutil.copy(MINGW_NOTICE, os.path.join(folder, "mingw-w64.txt"))
+
+
+def copy_imports(folder: str) -> None:
+    """Copies what a linker takes in place of the library for Windows to where the linker of
+    Microsoft looks for it: both linkers read the same."""
+    shutil.copy(os.path.join(folder, WINDOWS_GNU.triple, WINDOWS_GNU.imports[0]),
+                os.path.join(folder, WINDOWS_MSVC.triple, WINDOWS_MSVC.imports[0]))
 
 
 def link(platform: Platform, made: Compiled, folder: str) -> None:
@@ -184,3 +197,5 @@ def link(platform: Platform, made: Compiled, folder: str) -> None:
     if platform.archive:
         archive(platform.archive, platform.form, made.path, folder)
     LINKERS[platform.form](platform, made, folder)
+    if platform.program:
+        link_program(platform, folder)

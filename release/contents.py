@@ -5,7 +5,9 @@ from typing import Dict
 
 from packing import File
 from pages import named, reached, relinked
-from repository import BUILT, ROOT, STAMP, output_of, project, read, tracked, version
+from repository import BUILT, ROOT, STAMP, output_of, project, read, soname, tracked, version
+from stamp import PLATFORMS as LIBRARIES
+from targets import ELF, FAMILIES, X86_LINUX, Platform
 
 Files = Dict[str, File]
 
@@ -81,11 +83,58 @@ def installed() -> Files:
     return files
 
 
-def c_files() -> Files:
-    """Returns the files of the archive for C."""
+def library(platform: Platform, name: str) -> File:
+    """Returns a file of the libraries of a platform."""
+    path = f"{LIBRARIES}/{platform.triple}/{name}"
+    return File(read(path), os.access(os.path.join(ROOT, path), os.X_OK))
+
+
+def linux_files(platform: Platform) -> Files:
+    """Returns the libraries for Linux and the program, by the paths that `crates/cfgx_c/install`
+    gives them."""
+    whole = f"libcfgx.so.{version()}"
+    return {
+        f"bin/{platform.program}": library(platform, platform.program),
+        f"lib/{platform.archive}": library(platform, platform.archive),
+        f"lib/{whole}": library(platform, soname()),
+        f"lib/{soname()}": File(b"", link=whole),
+        f"lib/{platform.shared}": File(b"", link=soname()),
+    }
+
+
+def other_files(platform: Platform) -> Files:
+    """Returns the libraries for a platform that is not Linux, and the program if there is one.
+    Windows looks for a library beside a program."""
+    files = {}
+    for name in platform.files:
+        folder = "bin" if name.endswith((".dll", ".exe")) else "lib"
+        files[f"{folder}/{name}"] = library(platform, name)
+    if platform.program:
+        files["LICENSES/mingw-w64.txt"] = library(platform, "mingw-w64.txt")
+    return files
+
+
+def libraries(family: str) -> Files:
+    """Returns what stands in the archive for C of a family of platforms because of its platforms:
+    libraries, and the program with its manual page."""
+    if FAMILIES[family] == (X86_LINUX,):
+        return installed()
+    files = {}
+    for platform in FAMILIES[family]:
+        made = linux_files(platform) if platform.form == ELF else other_files(platform)
+        files.update(made)
+    has_program = any(path.startswith("bin/cfgx") and path[-4:] != ".dll" for path in files)
+    shared = {path: file for path, file in installed().items()
+              if path == PC or path.startswith(("include/", "share/man/man3/"))
+              or (has_program and path.startswith("share/man/man1/"))}
+    return {**files, **shared}
+
+
+def c_files(family: str) -> Files:
+    """Returns the files of the archive for C of a family of platforms."""
     sources = [path for path in tracked("crates/cfgx_c/examples") if path.endswith((".c", ".h"))]
     examples = {f"examples/{os.path.basename(path)}": File(read(path)) for path in sources}
-    return {**installed(), **licenses(), **pages(README, {}), **examples}
+    return {**libraries(family), **licenses(), **pages(README, {}), **examples}
 
 
 def rust_files() -> Files:

@@ -1,5 +1,5 @@
-"""Looks at the libraries of a platform: what they show, what they ask for, and for what machine they
-are. Nothing is run."""
+"""Looks at the libraries of a platform: what they show, what they ask for, and for what machine
+they are. Nothing is run."""
 import os
 import re
 from typing import Dict, FrozenSet, List, Set

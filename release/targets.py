@@ -26,28 +26,47 @@ class Platform(NamedTuple):
     archive: str = ""
     shared: str = ""
     imports: Tuple[str, ...] = ()
+    # the program, where one is made of examples/cfgx.c, and what compiles and links it
+    program: str = ""
+    compiler: Tuple[str, ...] = ()
     # what its libraries may ask of its C library, and of its compiler, by the names in C
     needs: FrozenSet[str] = HEAP | BLOCKS
+    # what runs its libraries in the tests, or nothing
+    runner: str = ""
 
     @property
     def files(self) -> Tuple[str, ...]:
-        """The names of its files."""
-        return tuple(filter(None, (self.archive, self.shared, *self.imports)))
+        """The names of its files, but for those of licences."""
+        return tuple(filter(None, (self.archive, self.shared, *self.imports, self.program)))
 
 
 # The archive of the kit serves x86-64 Linux, which `crates/cfgx_c/install` puts into `out/cfgx`.
-INSTALLED = Platform(X86, X86, X86, ELF, "libcfgx.a", "libcfgx.so", needs=HEAP | BLOCKS | {"bcmp"})
-COMPILED = (
-    Platform(ARM, ARM, ARM, ELF, "libcfgx.a", "libcfgx.so", needs=HEAP | BLOCKS | {"bcmp"}),
-    Platform("x86_64-pc-windows-gnu", "x86_64-pc-windows-gnu", X86, COFF, "libcfgx.a", "cfgx.dll",
-             ("libcfgx.dll.a",)),
-    Platform("x86_64-pc-windows-msvc", "x86_64-pc-windows-msvc", X86, COFF, "cfgx.lib",
-             imports=("cfgx.dll.lib",)),
-    Platform("x86_64-apple-darwin", "x86_64-apple-macosx10.12", X86, MACHO, "libcfgx.a",
-             "libcfgx.dylib", needs=HEAP | BLOCKS | {"bzero", "__bzero"}),
-    Platform("aarch64-apple-darwin", "arm64-apple-macosx11.0", ARM, MACHO, "libcfgx.a",
-             "libcfgx.dylib", needs=HEAP | BLOCKS | {"bzero"}),
-    Platform("wasm32-unknown-unknown", "wasm64-unknown-unknown", X86, WASM, shared="cfgx.wasm",
-             needs=frozenset()),
-)
-PLATFORMS = (INSTALLED, *COMPILED)
+X86_LINUX = Platform(X86, X86, X86, ELF, "libcfgx.a", "libcfgx.so", needs=HEAP | BLOCKS | {"bcmp"},
+                     runner="this processor")
+ARM_LINUX = Platform(ARM, ARM, ARM, ELF, "libcfgx.a", "libcfgx.so", program="cfgx",
+                     compiler=("aarch64-linux-gnu-gcc",), needs=HEAP | BLOCKS | {"bcmp"},
+                     runner="qemu-aarch64")
+WINDOWS_GNU = Platform("x86_64-pc-windows-gnu", "x86_64-pc-windows-gnu", X86, COFF, "libcfgx.a",
+                       "cfgx.dll", ("libcfgx.dll.a",), "cfgx.exe",
+                       ("x86_64-w64-mingw32-gcc", "-static", "-Wl,--no-insert-timestamp"),
+                       runner="wine")
+WINDOWS_MSVC = Platform("x86_64-pc-windows-msvc", "x86_64-pc-windows-msvc", X86, COFF, "cfgx.lib",
+                        imports=("cfgx.dll.lib",))
+X86_MAC = Platform("x86_64-apple-darwin", "x86_64-apple-macosx10.12", X86, MACHO, "libcfgx.a",
+                   "libcfgx.dylib", needs=HEAP | BLOCKS | {"bzero", "__bzero"})
+ARM_MAC = Platform("aarch64-apple-darwin", "arm64-apple-macosx11.0", ARM, MACHO, "libcfgx.a",
+                   "libcfgx.dylib", needs=HEAP | BLOCKS | {"bzero"})
+WASM_32 = Platform("wasm32-unknown-unknown", "wasm64-unknown-unknown", X86, WASM,
+                   shared="cfgx.wasm", needs=frozenset(), runner="Node")
+# Those that are compiled here, and all of them.
+COMPILED = (ARM_LINUX, WINDOWS_GNU, WINDOWS_MSVC, X86_MAC, ARM_MAC, WASM_32)
+PLATFORMS = (X86_LINUX, *COMPILED)
+
+# What an archive for C is for, and the platforms whose libraries it has.
+FAMILIES = {
+    "x86_64-linux": (X86_LINUX,),
+    "aarch64-linux": (ARM_LINUX,),
+    "x86_64-windows": (WINDOWS_GNU, WINDOWS_MSVC),
+    "x86_64-macos": (X86_MAC,),
+    "aarch64-macos": (ARM_MAC,),
+}

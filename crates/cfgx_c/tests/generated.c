@@ -1,6 +1,6 @@
-/* Makes each call with each text of a file that generated.py wrote, and writes what it returns and
- * fills to another file, in which two platforms are compared. Each number has four bytes, the lowest
- * first. */
+/* Makes each call with each text of a file that generated.py wrote, and writes to another file what
+ * it returns and fills. By such files two platforms are compared. Each number has four bytes, the
+ * lowest first. */
 #include "cfgx.h"
 
 #include <stdio.h>

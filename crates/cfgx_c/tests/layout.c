@@ -1,5 +1,5 @@
-/* The layout of the structs, as the engine reads and fills them on each platform. It is compiled for
- * each, and never linked. */
+/* The layout of the structs, as the engine reads and fills them on each platform. It is compiled
+ * for each, and never linked. */
 #include "cfgx.h"
 
 #define EXPECT_SIZE(type, size) _Static_assert(sizeof(type) == (size), #type)
