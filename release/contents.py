@@ -1,13 +1,15 @@
 """What stands in each archive of a release, by paths in the archive."""
 import os
 import sys
-from typing import Dict
+from typing import Dict, NamedTuple, Tuple
 
 from packing import File
 from pages import named, reached, relinked
 from repository import BUILT, ROOT, STAMP, output_of, project, read, soname, tracked, version
 from stamp import PLATFORMS as LIBRARIES
-from targets import ELF, FAMILIES, X86_LINUX, Platform
+from targets import (
+    ARM_LINUX, ARM_MAC, ELF, FAMILIES, PLATFORMS, WINDOWS_GNU, X86_LINUX, X86_MAC, Platform,
+)
 
 Files = Dict[str, File]
 
@@ -29,8 +31,33 @@ MANUAL_MAKER = ("-B", "manual/make", "deps")
 PC = "lib/pkgconfig/cfgx.pc"
 RELATIVE = "prefix=${pcfiledir}/../..\n"
 
-# The systems that the wheel is for: the same ones by a new name and by one for an older pip.
-PLATFORMS = ("manylinux_2_17_x86_64", "manylinux2014_x86_64")
+
+
+class Wheel(NamedTuple):
+    """A wheel: the systems that it is for, and the platform whose library it has. Several names of
+    one system are a new one and one for an older pip."""
+    systems: Tuple[str, ...]
+    platform: Platform
+
+    def name(self) -> str:
+        """Returns the name of its file."""
+        return f"cfgx-{version()}-py3-none-{'.'.join(self.systems)}.whl"
+
+    def library(self) -> str:
+        """Returns the name of its library, by which the package looks for it."""
+        return soname() if self.platform.form == ELF else self.platform.shared
+
+
+# Linux has two C libraries, and both load the same library.
+WHEELS = (
+    Wheel(("manylinux_2_17_x86_64", "manylinux2014_x86_64"), X86_LINUX),
+    Wheel(("manylinux_2_17_aarch64", "manylinux2014_aarch64"), ARM_LINUX),
+    Wheel(("musllinux_1_1_x86_64",), X86_LINUX),
+    Wheel(("musllinux_1_1_aarch64",), ARM_LINUX),
+    Wheel(("win_amd64",), WINDOWS_GNU),
+    Wheel(("macosx_11_0_x86_64",), X86_MAC),
+    Wheel(("macosx_11_0_arm64",), ARM_MAC),
+)
 METADATA = """Metadata-Version: 2.4
 Name: {name}
 Version: {version}
@@ -39,9 +66,10 @@ License-Expression: {license}
 {licenses}Requires-Python: {python}
 Description-Content-Type: text/markdown
 
-This wheel has the library inside, and pip installs it without `setuptools`. It is for Linux on
-x86-64-v2, so for a processor with SSE4.2, and for glibc 2.17 or later. pip puts the pages into the
-folder `{documents}` of the environment, and the manual page of `cfgx-deps` into `share/man`.
+This wheel has the library inside, and pip installs it without `setuptools`. A release has one for
+each system, which the end of its name says. They differ in the library alone. pip puts the pages
+into the folder `{documents}` of the environment, and the manual page of `cfgx-deps` into
+`share/man`.
 
 {description}"""
 WHEEL = "Wheel-Version: 1.0\nGenerator: release/make of cfgx\nRoot-Is-Purelib: false\n"
@@ -138,19 +166,23 @@ def c_files(family: str) -> Files:
 
 
 def rust_files() -> Files:
-    """Returns the files of the archive for Rust: the crate `cfgx`, with the library inside, and in
-    its folder the package `cfg-expr`. Each of both packages has the licences."""
+    """Returns the files of the archive for Rust: the crate `cfgx`, with the library for each
+    platform inside, and in its folder the package `cfg-expr`. Each of both packages has the
+    licences."""
     top = "bindings/rust/"
     parts = ("Cargo.toml", "LICENSES", "build.rs", "src", "cfg-expr")
     sources = tracked(*(top + path for path in parts))
     sources = [path for path in sources if not path.endswith(".gitignore")]
     code = {path[len(top):]: File(read(path)) for path in sources}
-    library = {"lib/libcfgx.a": File(read(f"{BUILT}/lib/libcfgx.a"))}
+    libraries = {
+        f"lib/{platform.triple}/{platform.archive}": library(platform, platform.archive)
+        for platform in PLATFORMS if platform.archive
+    }
     told = pages(RUST_README, {RUST_README: README, README: MOVED})
-    return {**code, **library, **licenses(), **licenses("cfg-expr/"), **told}
+    return {**code, **libraries, **licenses(), **licenses("cfg-expr/"), **told}
 
 
-def information() -> Files:
+def information(wheel: Wheel) -> Files:
     """Returns what a wheel says of the package, by paths in the folder `.dist-info`."""
     fields = {
         "name": "name", "summary": "description", "license": "license", "python": "requires-python",
@@ -162,7 +194,7 @@ def information() -> Files:
     script, = project("cfgx-deps")
     texts = {
         "METADATA": metadata,
-        "WHEEL": WHEEL + "".join(f"Tag: py3-none-{platform}\n" for platform in PLATFORMS),
+        "WHEEL": WHEEL + "".join(f"Tag: py3-none-{system}\n" for system in wheel.systems),
         "entry_points.txt": f"[console_scripts]\ncfgx-deps = {script}\n",
     }
     return {**{path: File(text.encode()) for path, text in texts.items()}, **licenses("licenses/")}
@@ -177,13 +209,13 @@ def documents() -> Files:
     return {f"data/{path}": file for path, file in {**told, MANUAL: manual}.items()}
 
 
-def python_files(named_version: str) -> Files:
-    """Returns the files of the wheel but for its record. `named_version` begins the names of the
+def python_files(named_version: str, wheel: Wheel) -> Files:
+    """Returns the files of a wheel but for its record. `named_version` begins the names of the
     folders `.dist-info` and `.data`."""
     top = "bindings/python/src/"
     code = {path[len(top):]: File(read(path)) for path in tracked(top)}
-    name = "libcfgx.so." + version().rsplit(".", 1)[0]
-    library = {f"cfgx/{name}": File(read(f"{BUILT}/lib/{name}"), is_program=True)}
-    told = {f"{named_version}.dist-info/{path}": file for path, file in information().items()}
+    name = wheel.library()
+    own = {f"cfgx/{name}": library(wheel.platform, name)._replace(is_program=True)}
+    told = {f"{named_version}.dist-info/{path}": file for path, file in information(wheel).items()}
     data = {f"{named_version}.data/{path}": file for path, file in documents().items()}
-    return {**code, **library, **told, **data}
+    return {**code, **own, **told, **data}

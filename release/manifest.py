@@ -16,6 +16,8 @@ PROGRAM_GLIBC, GLIBC = "2.34", "2.17"
 ENGINE = re.compile(
     r"/(bin/cfgx(\.exe|\.dll)?|libcfgx\.(a|dylib|so[.0-9]*)|cfgx\.(dll|lib|wasm))$"
 )
+# Where the sections of a wheel and of the archive for Rust begin in the text, by their names.
+SECTION = re.compile(r"^(?=@(?:PYTHON|RUST)_NAME@$)", re.M)
 
 # What the section of an archive for C says of its program, and what its files need.
 GLIBC_IS_NEEDED = f"""The program needs glibc {PROGRAM_GLIBC} or later, and the shared object glibc
@@ -78,11 +80,18 @@ def linker() -> str:
     return ", ".join(repository.first_line(tool) for tool in ("cc", "ld"))
 
 
+def filled(form: str, places: Dict[str, str]) -> str:
+    """Returns a part of the text with what stands in its places."""
+    return re.sub(r"@(\w+)@", lambda found: places[found[1]], form)
+
+
 def text(version: str, commit: repository.Commit, held: Dict[str, Dict[str, File]]) -> str:
     """Returns the text. `held` has the files of each archive, by the name of the archive: those for
     C, for Python and for Rust."""
     kit, changes = repository.kit(), ", and changes after it" if commit.is_changed else ""
-    *c_names, wheel, rust = held
+    c_names = [name for name in held if not name.endswith(".whl")]
+    wheels = [name for name in held if name.endswith(".whl")]
+    rust = c_names.pop()
     places = {
         "VERSION": version, "COMMIT": commit.name + changes, "DATE": commit.date(),
         "KIT": kit["version"], "KIT_COMMIT": kit["commit"], "COMPILER": kit["compiler"],
@@ -94,8 +103,9 @@ def text(version: str, commit: repository.Commit, held: Dict[str, Dict[str, File
         "CFG_EXPR": repository.rust_field("cfg-expr/Cargo.toml", "version"),
         "RUST": repository.rust_field("Cargo.toml", "rust-version"),
         "C_SECTIONS": "\n".join(c_section(name, held[name]) for name in c_names),
-        "PYTHON_NAME": wheel, "PYTHON_FILES": rows(held[wheel]),
         "RUST_NAME": rust, "RUST_FILES": rows(held[rust]),
     }
-    whole = repository.read_text("release/MANIFEST.in")
-    return re.sub(r"@(\w+)@", lambda found: places[found[1]], whole)
+    head, python, end = SECTION.split(repository.read_text("release/MANIFEST.in"))
+    own = [{"PYTHON_NAME": name, "PYTHON_FILES": rows(held[name])} for name in wheels]
+    sections = [filled(python, {**places, **one}) for one in own]
+    return "".join([filled(head, places), *sections, filled(end, places)])

@@ -8,15 +8,20 @@ import tarfile
 import unittest
 import zlib
 
-from . import C, FOLDER, RUST, SONAME, VERSION, WHEEL, files_of, files_of_wheel, path_of
+from . import (
+    ARCHIVES, C, FOLDER, RUST, VERSION, WHEELS, files_of, files_of_wheel, path_of, wheel_for,
+)
 
 import repository
 
 # The files that have the engine inside.
-ENGINES = {
-    f"{C}/bin/cfgx", f"{C}/lib/libcfgx.a", f"{C}/lib/libcfgx.so.{VERSION}", f"cfgx/{SONAME}",
-    f"{RUST}/lib/libcfgx.a",
-}
+ENGINES = [
+    f"{C}/bin/cfgx", f"{C}/lib/libcfgx.a", f"{C}/lib/libcfgx.so.{VERSION}",
+    *(f"cfgx/{library}" for _, library, *_ in WHEELS),
+    *(f"{RUST}/lib/{folder}/{name}" for folder, name, _ in ARCHIVES),
+]
+# The archives in the order of the sections.
+NAMES = [f"{C}.tar.gz", *(wheel_for(systems) for systems, *_ in WHEELS), f"{RUST}.tar.gz"]
 
 
 def printed(*words, **variables):
@@ -42,15 +47,16 @@ class Manifest(unittest.TestCase):
     """MANIFEST.txt."""
 
     def test_sections(self):
-        self.assertEqual(list(sections()[1]), [f"{C}.tar.gz", WHEEL, f"{RUST}.tar.gz"])
+        self.assertEqual(list(sections()[1]), NAMES)
 
     def test_each_section_has_the_files_of_its_archive(self):
         _, found = sections()
-        for name, files in ((f"{C}.tar.gz", files_of(C)), (WHEEL, files_of_wheel()),
-                            (f"{RUST}.tar.gz", files_of(RUST))):
+        for name in NAMES:
+            is_wheel = name.endswith(".whl")
+            files = files_of_wheel(name) if is_wheel else files_of(name[:-len(".tar.gz")])
             rows = [(f"{sum_of(data)}  {path}", path) for path, data in files.items()]
             rows = [(row + "  (engine)" if path in ENGINES else row, path) for row, path in rows]
-            if name != WHEEL:
+            if not is_wheel:
                 with tarfile.open(path_of(name)) as archive:
                     rows += [(f"{'link':64}  {one.name} -> {one.linkname}", one.name)
                              for one in archive if one.issym()]
@@ -95,7 +101,8 @@ code      for Linux on x86-64-v2, so for a processor with SSE4.2
                              repository.read_text("bindings/python/pyproject.toml"), re.M)
         for name, said in (
             (f"{C}.tar.gz", "glibc 2.34 or later, and the shared object glibc 2.17 or later."),
-            (WHEEL, f"The package for Python {python} or later,"),
+            *((wheel_for(systems), f"The package for Python {python} or later,")
+              for systems, *_ in WHEELS),
             (f"{RUST}.tar.gz", f"package `cfg-expr` {number} over it, for Rust {rust} or later."),
         ):
             self.assertIn(said, texts[name].replace("\n", " "))
@@ -106,7 +113,7 @@ class Sums(unittest.TestCase):
     """SHA256SUMS."""
 
     def test_sums(self):
-        names = sorted([f"{C}.tar.gz", WHEEL, f"{RUST}.tar.gz", "MANIFEST.txt"])
+        names = sorted([*NAMES, "MANIFEST.txt"])
         self.assertEqual(sorted(os.listdir(FOLDER)), sorted([*names, "SHA256SUMS"]))
         wanted = []
         for name in names:
