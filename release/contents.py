@@ -32,7 +32,6 @@ PC = "lib/pkgconfig/cfgx.pc"
 RELATIVE = "prefix=${pcfiledir}/../..\n"
 
 
-
 class Wheel(NamedTuple):
     """A wheel: the systems that it is for, and the platform whose library it has. Several names of
     one system are a new one and one for an older pip."""
