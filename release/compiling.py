@@ -82,10 +82,12 @@ def moved(text: str, platform: Platform) -> str:
 
 
 def words_for(module: Module, platform: Platform) -> List[str]:
-    """Returns the words of clang for a platform: those of the kit, but for what it lacks."""
+    """Returns the words of clang for a platform: those of the kit, but for what it lacks. An object
+    for Windows has no time in it."""
     lacks = {COFF: ("-fPIC",), WASM: ("-fPIC", "-march=")}.get(platform.form, ())
-    words = [word for word in module.words if not word.startswith(lacks or "\0")]
-    return [tool("clang"), f"--target={platform.target}", *words]
+    words = [word for word in module.words if not (lacks and word.startswith(lacks))]
+    more = ["-mno-incremental-linker-compatible"] if platform.form == COFF else []
+    return [tool("clang"), f"--target={platform.target}", *words, *more]
 
 
 def compiled(module: Module, platform: Platform, folder: str) -> Compiled:
