@@ -18,6 +18,15 @@ C = f"cfgx-{VERSION}-x86_64-linux"
 RUST = f"cfgx-rust-{VERSION}"
 WHEEL = f"cfgx-{VERSION}-py3-none-manylinux_2_17_x86_64.manylinux2014_x86_64.whl"
 
+# The archives for C for other platforms: the end of the name, and the folders of `out/platforms`
+# from which the libraries are.
+FAMILIES = (
+    ("aarch64-linux", ("aarch64-unknown-linux-gnu",)),
+    ("x86_64-windows", ("x86_64-pc-windows-gnu", "x86_64-pc-windows-msvc")),
+    ("x86_64-macos", ("x86_64-apple-darwin",)),
+    ("aarch64-macos", ("aarch64-apple-darwin",)),
+)
+
 # The archives that the crate has: the folder, the file, and what it is for.
 ARCHIVES = (
     ("x86_64-unknown-linux-gnu", "libcfgx.a", "Linux x86_64"),
@@ -58,6 +67,11 @@ def files_of(name):
     """Returns the bytes of the files of an archive for C or Rust, by their paths."""
     with tarfile.open(path_of(f"{name}.tar.gz")) as archive:
         return {one.name: archive.extractfile(one).read() for one in archive if one.isfile()}
+
+
+def c_for(family):
+    """Returns the name of the archive for C for other platforms, without its ending."""
+    return f"cfgx-{VERSION}-{family}"
 
 
 def wheel_for(systems):

@@ -9,7 +9,8 @@ import unittest
 import zlib
 
 from . import (
-    ARCHIVES, C, FOLDER, RUST, VERSION, WHEELS, files_of, files_of_wheel, path_of, wheel_for,
+    ARCHIVES, C, FAMILIES, FOLDER, RUST, VERSION, WHEELS, c_for, files_of, files_of_wheel, path_of,
+    wheel_for,
 )
 
 import repository
@@ -17,11 +18,34 @@ import repository
 # The files that have the engine inside.
 ENGINES = [
     f"{C}/bin/cfgx", f"{C}/lib/libcfgx.a", f"{C}/lib/libcfgx.so.{VERSION}",
+    *(f"{c_for('aarch64-linux')}/{path}"
+      for path in ("bin/cfgx", "lib/libcfgx.a", f"lib/libcfgx.so.{VERSION}")),
+    *(f"{c_for('x86_64-windows')}/{path}"
+      for path in ("bin/cfgx.dll", "bin/cfgx.exe", "lib/cfgx.lib", "lib/libcfgx.a")),
+    *(f"{c_for(family)}/lib/{name}" for family in ("x86_64-macos", "aarch64-macos")
+      for name in ("libcfgx.a", "libcfgx.dylib")),
     *(f"cfgx/{library}" for _, library, *_ in WHEELS),
     *(f"{RUST}/lib/{folder}/{name}" for folder, name, _ in ARCHIVES),
 ]
+# The tools that link a library, or lower one.
+TOOLS = ("cc", "ld", "aarch64-linux-gnu-gcc", "aarch64-linux-gnu-ld", "x86_64-w64-mingw32-gcc",
+         "x86_64-w64-mingw32-ld", "wasm-ld", "wasm-opt")
+# The targets for which the crate is checked, and what is said of each platform.
+X86, ARM = "x86_64-unknown-linux-gnu", "aarch64-unknown-linux-gnu"
+PLATFORMS = [
+    (X86, X86, "this processor"),
+    (ARM, ARM, "qemu-aarch64"),
+    ("x86_64-pc-windows-gnu", X86, "wine"),
+    ("x86_64-pc-windows-msvc", X86, "not run"),
+    ("x86_64-apple-darwin", X86, "not run"),
+    ("aarch64-apple-darwin", ARM, "not run"),
+    ("wasm32-unknown-unknown", X86, "Node"),
+]
+# A larger frame would need probes of the stack.
+PAGE = 4096
 # The archives in the order of the sections.
-NAMES = [f"{C}.tar.gz", *(wheel_for(systems) for systems, *_ in WHEELS), f"{RUST}.tar.gz"]
+NAMES = [f"{C}.tar.gz", *(f"{c_for(family)}.tar.gz" for family, _ in FAMILIES),
+         *(wheel_for(systems) for systems, *_ in WHEELS), f"{RUST}.tar.gz"]
 
 
 def printed(*words, **variables):
@@ -76,7 +100,8 @@ class Manifest(unittest.TestCase):
         with open(os.path.join(os.path.dirname(printed("rt", "doc")), "WHAT"),
                   encoding="utf-8") as file:
             kit = dict(line.split() for line in file)
-        cc, ld = (printed(tool, "--version").splitlines()[0] for tool in ("cc", "ld"))
+        cc, ld, *others = (printed(tool, "--version").splitlines()[0] for tool in TOOLS)
+        lines = "".join(f"          {line}\n" for line in others)
         wanted = f"""cfgx {VERSION}
 
 commit    {printed("git", "rev-parse", "HEAD")}{changes}
@@ -86,10 +111,20 @@ kit       {printed("rt", "version")}
           commit of the kit    {kit["commit"]}
           compiler of the kit  {kit["compiler"]}
 linker    {cc}, {ld}
-packed    by Python {sys.version.split()[0]}, zlib {zlib.ZLIB_RUNTIME_VERSION}
-code      for Linux on x86-64-v2, so for a processor with SSE4.2
+others    of the libraries for other platforms, beside the clang, lld and llvm-ar of the kit:
+{lines}packed    by Python {sys.version.split()[0]}, zlib {zlib.ZLIB_RUNTIME_VERSION}
 """
         self.assertEqual(sections()[0].split("\nProved.")[0], wanted)
+
+    def test_platforms(self):
+        """Each platform has a line, which says for which target the crate was checked and what runs
+        the library, and a frame. Each of both targets has a verdict."""
+        head = sections()[0]
+        found = re.findall(r"^(\S+) +(\S+-linux-gnu) +(\S.*?)  +(\d+) bytes$", head, re.M)
+        self.assertEqual([row[:3] for row in found], PLATFORMS)
+        self.assertLess(max(int(row[3]) for row in found), PAGE)
+        verdicts = re.findall(r"^(\S+-linux-gnu)\n  logic=proved .*\btarget=(\S+)", head, re.M)
+        self.assertEqual(verdicts, [(target, target) for target in (X86, ARM)])
 
     def test_what_is_needed(self):
         texts = sections()[1]
