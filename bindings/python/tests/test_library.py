@@ -11,7 +11,7 @@ import tempfile
 import unittest
 import unittest.mock
 
-from . import HERE, PACKAGE, ROOT, needs
+from . import HERE, PACKAGE, PYTHON, ROOT, needs
 
 import cfgx
 from cfgx import _error, _library, _targets
@@ -67,7 +67,7 @@ def python(program, folder=PACKAGE, cwd=None, **variables):
     kept = {name: os.environ[name] for name in ("PATH", "LD_LIBRARY_PATH") if name in os.environ}
     variables = {**kept, "PYTHONPATH": folder, "PYTHONDONTWRITEBYTECODE": "1", **variables}
     pipe = subprocess.PIPE
-    command = [sys.executable, "-c", program]
+    command = [*PYTHON, "-c", program]
     return subprocess.run(command, env=variables, cwd=cwd, stdout=pipe, stderr=pipe)
 
 
@@ -173,10 +173,14 @@ class Finding(unittest.TestCase):
     def test_a_library_that_the_loader_finds(self):
         with tempfile.TemporaryDirectory() as folder:
             shutil.copy(_library.path_of(), os.path.join(folder, NAME))
+            # A package that was installed has the library beside itself.
+            package = os.path.join(folder, "package")
+            shutil.copytree(os.path.join(PACKAGE, "cfgx"), os.path.join(package, "cfgx"),
+                            ignore=shutil.ignore_patterns(NAME))
             program = "import cfgx; print(cfgx._library.path_of())"
             # An empty variable names no file.
             for variables in ({}, {"CFGX_LIBRARY": ""}):
-                run = python(program, LD_LIBRARY_PATH=folder, **variables)
+                run = python(program, package, LD_LIBRARY_PATH=folder, **variables)
                 self.assertEqual(run.stdout.decode(), f"{NAME}\n", run.stderr)
 
 
@@ -291,7 +295,7 @@ class Characters(unittest.TestCase):
 class Memory(unittest.TestCase):
     """What happens without memory."""
 
-    @needs("/proc/self/statm", untested="calls with little memory")
+    @needs("/proc/self/statm", "limit of memory", untested="calls with little memory")
     def test_memory_that_is_refused(self):
         # So what the parser returns to malloc goes back to the system.
         threshold = {"MALLOC_MMAP_THRESHOLD_": "100000"}
@@ -358,9 +362,10 @@ class Project(unittest.TestCase):
     def test_its_files(self):
         numbers = numbers_of("VERSION")
         self.assertEqual(NAME, f"libcfgx.so.{numbers['LANGUAGE']}.{numbers['MAJOR']}")
-        *files, library = self.fields("cfgx")
+        *files, library, macos, windows = self.fields("cfgx")
         self.assertEqual(files, ["py.typed", _targets.NAME])
         self.assertTrue(fnmatch.fnmatch(NAME, library), library)
+        self.assertEqual({"darwin": macos, "win32": windows}, _library.NAMES)
         for name in ("py.typed", _targets.NAME):
             self.assertTrue(os.path.exists(os.path.join(PACKAGE, "cfgx", name)))
 

@@ -1,12 +1,14 @@
 """The command `cfgx-deps`."""
 import argparse
+import errno
 import gc
+import io
 import os
 import shutil
 import sys
 from typing import Dict, Iterable, Iterator, List, NoReturn, Optional, Sequence, TextIO
 
-from . import __version__
+from . import __version__, _process
 from ._arguments import parser_of
 from .manifest import ManifestError, Report, RequestError, Value, report
 from .manifest import _flags, _formats, _platforms, _table
@@ -83,13 +85,19 @@ def write(lines: Iterable[str]) -> None:
     if sys.stdout is None:
         raise OutputError("the output is closed")
     encoding = sys.stdout.encoding or "utf-8"
+    if isinstance(sys.stdout, io.TextIOWrapper):
+        # On Windows, a line would end with a carriage return, which a reader takes for a text.
+        sys.stdout.reconfigure(newline="\n")
     try:
         for text in pieces_of(lines):
             print(text.encode(encoding, "backslashreplace").decode(encoding), flush=True)
     except OSError as error:
         abandon(sys.stdout)
-        # If the pipe is broken, whoever reads has enough.
-        if not isinstance(error, BrokenPipeError):
+        # If the pipe is broken, whoever reads has enough. Windows has another error for it.
+        is_broken = isinstance(error, BrokenPipeError) or (
+            _process.IS_WINDOWS and error.errno == errno.EINVAL
+        )
+        if not is_broken:
             raise OutputError(f"the output could not be written: {error.strerror}") from error
 
 
