@@ -359,9 +359,9 @@ class Project(unittest.TestCase):
         numbers = numbers_of("VERSION")
         self.assertEqual(NAME, f"libcfgx.so.{numbers['LANGUAGE']}.{numbers['MAJOR']}")
         *files, library = self.fields("cfgx")
-        self.assertEqual(files, ["py.typed", _targets.NAME])
+        self.assertEqual(files, ["py.typed", _targets.NAME, "manifest/schema.json"])
         self.assertTrue(fnmatch.fnmatch(NAME, library), library)
-        for name in ("py.typed", _targets.NAME):
+        for name in files:
             self.assertTrue(os.path.exists(os.path.join(PACKAGE, "cfgx", name)))
 
     def test_the_python_that_it_needs(self):

@@ -44,6 +44,16 @@ def parser_of(kind: Type[Parser]) -> Parser:
         help="a flag that is set: NAME or KEY=\"VALUE\"")
     add("--no-other-cfg", action="store_true", help="no other flag is set")
     add("--rustflags", action="store_true", help="read RUSTFLAGS as Cargo does")
+    add("--resolved", action="store_true",
+        help="the packages of the lock file, and which of them a build for each target has")
+    add("--features", metavar="NAME,..", action="append", default=[],
+        help="with --resolved, features that are on, as for cargo")
+    add("--all-features", action="store_true", help="with --resolved, each feature is on")
+    add("--no-default-features", action="store_true",
+        help="with --resolved, the feature default is off")
+    add("--config", metavar="SETTING", action="append", default=[],
+        help="with --resolved, a setting for cargo: KEY=VALUE or a file of configuration")
+    add("--schema", action="store_true", help="print the schema of the JSON")
     add("--format", choices=FORMATS, default=FORMATS[0], help="what is printed")
     add("--summary", action="store_true", help="count the platforms with each value")
     add("--fail-on", metavar="WHAT,..", action="append", default=[],

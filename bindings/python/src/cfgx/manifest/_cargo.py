@@ -15,6 +15,8 @@ TIMEOUT = 60.0
 # What cargo may print, in bytes, and the data that its process may have. A manifest of a megabyte
 # may define a long list once, and make cargo print it ten thousand times.
 MOST_PRINTED, MOST_DATA = 32 << 20, 1 << 30
+# Beside a graph, cargo would read and write what rustc says in the folder `target` of a workspace.
+VARIABLES = {"CARGO_CACHE_RUSTC_INFO": "0"}
 
 
 class Source(NamedTuple):
@@ -104,6 +106,13 @@ class Workspace:
     own: Tuple[Package, ...]
     """The package of the manifest alone, or if it has none, all packages."""
 
+    @classmethod
+    def of(cls, packages: Sequence[Package], manifest: str) -> "Workspace":
+        """Returns the workspace with these packages, of which the manifest is one or the root."""
+        same = os.path.realpath(manifest)
+        own = tuple(one for one in packages if os.path.realpath(one.manifest_path) == same)
+        return cls(tuple(packages), own or tuple(packages))
+
     def chosen(self, names: Sequence[str], is_whole: bool) -> Tuple[Package, ...]:
         """Returns the packages with these names or, if there are no names, all packages of the
         workspace or those of the manifest. Raises `RequestError`."""
@@ -168,7 +177,7 @@ def output_of(*words: str, seconds: float) -> str:
     it may refuse. Raises `CargoError`."""
     limits = _process.Limits(seconds, MOST_PRINTED, MOST_DATA)
     try:
-        run = _process.run(["cargo", *words], limits)
+        run = _process.run(["cargo", *words], limits, VARIABLES)
     except FileNotFoundError as error:
         message = "there is no cargo on the path, and only cargo reads a manifest"
         raise CargoError(message) from error
@@ -206,9 +215,7 @@ def workspace_of(manifest: str, seconds: float = TIMEOUT) -> Workspace:
         packages = tuple(map(package_of, json.loads(text)["packages"]))
     except (ValueError, LookupError, TypeError, AttributeError, RecursionError) as error:
         raise CargoError(f"cargo lists no packages of {manifest}: {error}") from error
-    same = os.path.realpath(manifest)
-    own = tuple(one for one in packages if os.path.realpath(one.manifest_path) == same)
-    return Workspace(packages, own or packages)
+    return Workspace.of(packages, manifest)
 
 
 def package_of(listed: Dict[str, Any]) -> Package:

@@ -6,6 +6,7 @@ from ._cargo import Dependency
 from ._conditions import Fault, Unknown, groups_in
 from ._errors import shown
 from ._once import Once
+from ._platforms import Platform
 from ._report import Report, Row, Value
 from ._summary import Summary, summary_of
 from ._table import COUNTED
@@ -21,16 +22,18 @@ DETAILS = ("package_version", "package_manifest", "requirement", "source", "loca
 
 def json_of(report: Report, is_summary: bool) -> Iterator[str]:
     """Yields the lines of one object of JSON, which is ASCII."""
-    platforms = [
-        json.dumps({"name": one.name, "triple": one.triple, "host": one.is_host})
-        for one in report.platforms
-    ]
     yield f'{{"version": {VERSION},'
     yield f'"manifest": {json.dumps(report.manifest_path)},'
-    yield from list_of("platforms", platforms)
+    yield from list_of("platforms", platform_list(report.platforms))
     yield from list_of("dependencies", map(Entries(report, is_summary).entry, report.rows))
     yield f'"tried": {json.dumps(report.is_tried)},'
     yield f'"notes": {json.dumps(report.notes)}}}'
+
+
+def platform_list(platforms: Iterable[Platform]) -> Iterator[str]:
+    """Yields the objects of platforms."""
+    for one in platforms:
+        yield json.dumps({"name": one.name, "triple": one.triple, "host": one.is_host})
 
 
 def list_of(name: str, items: Iterable[str]) -> Iterator[str]:

@@ -124,6 +124,14 @@ class Compiler:
 Source = Union[Table, Compiler]
 
 
+def source_of(
+    flags: Flags, environment: Mapping[str, str], asks_rustc: bool, cargo_timeout: float
+) -> Source:
+    """Returns what says the facts: the compiler if it is asked, and else the table. Raises
+    `RequestError`."""
+    return Compiler(flags, environment) if asks_rustc else Table(flags, cargo_timeout)
+
+
 def facts_in(lines: Iterable[str], where: str) -> FrozenSet[str]:
     """Returns the texts of lines of facts. Raises `FactsError` for one that is no fact."""
     facts = []
