@@ -3,6 +3,7 @@
 leaves in crates/cfgx_c."""
 import atexit
 import functools
+import importlib.util
 import os
 import shutil
 import subprocess
@@ -42,7 +43,9 @@ def is_there(name):
         return sys.version_info >= (3, 11)
     if name == "Linux":
         return sys.platform == "linux"
-    if name not in ("cargo", "jq", "mypy", "rustc"):
+    if name in ("setuptools", "tomli"):
+        return importlib.util.find_spec(name) is not None
+    if name not in ("bash", "cargo", "fish", "jq", "mypy", "rustc", "zsh"):
         raise ValueError(name)
     # A tool that rustup stands in for may lack its toolchain.
     pipe = subprocess.PIPE

@@ -9,12 +9,12 @@ from typing import Dict, Iterable, Iterator, List, NoReturn, Optional, Sequence,
 
 from . import __version__
 from ._arguments import parser_of
+from ._terminal import shown
 from .manifest import (
     Features, ManifestError, Report, RequestError, Resolved, Row, Used, Value, report, resolved,
 )
 from .manifest import _flags, _formats, _platforms, _resolved_formats, _schema, _table
 from .manifest._cargo import KINDS
-from .manifest._errors import shown
 from .manifest._once import Once
 
 FOUND, MISUSED, FAILED, INTERRUPTED = 1, 2, 3, 130

@@ -109,6 +109,15 @@ def ended(process: "subprocess.Popen[bytes]", limits: Limits) -> Ended:
     return Ended(status, stdout, stderr)
 
 
+def processors() -> int:
+    """Returns how many processors this process may use."""
+    try:
+        return len(os.sched_getaffinity(0))
+    except (AttributeError, OSError):
+        # Another system has no such call.
+        return os.cpu_count() or 1
+
+
 class Printed:
     """What a process printed on a stream."""
 

@@ -5,8 +5,7 @@ import json
 import os
 from typing import Any, Dict, FrozenSet, Iterator, NamedTuple, Optional, Sequence, Tuple
 
-from .. import _process
-from . import _files
+from .. import _files, _process
 from ._errors import CargoError, RequestError
 
 KINDS = ("normal", "dev", "build")

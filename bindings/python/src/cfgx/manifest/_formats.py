@@ -2,9 +2,9 @@
 import json
 from typing import Any, Iterable, Iterator, Mapping, Optional, Sequence
 
+from .._terminal import shown
 from ._cargo import Dependency
 from ._conditions import Fault, Unknown, groups_in
-from ._errors import shown
 from ._once import Once
 from ._platforms import Platform
 from ._report import Report, Row, Value

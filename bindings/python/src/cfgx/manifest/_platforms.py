@@ -6,8 +6,8 @@ from typing import FrozenSet, Iterable, List, Mapping, Optional, Sequence, Tuple
 
 import cfgx
 
-from .. import _process
-from . import _cargo, _files, _flags
+from .. import _files, _process
+from . import _cargo, _flags
 from ._errors import CompilerError, FactsError, RequestError
 
 # The names that stand for all targets and for the host.

@@ -5,8 +5,8 @@ from typing import (
     Callable, Dict, Iterable, Iterator, List, NamedTuple, Optional, Sequence, Tuple,
 )
 
+from .._terminal import shown
 from ._conditions import Unknown, groups_in
-from ._errors import shown
 from ._once import Once
 from ._report import Report, Row, Value
 from ._summary import MOST_NAMED, Summary, summary_of
