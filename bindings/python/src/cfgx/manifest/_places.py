@@ -37,6 +37,7 @@ class Places:
 
     def __init__(self, base: str) -> None:
         self._base = base
+        self._spellings = Spellings()
         self._read: Dict[str, Manifest] = {}
 
     def of(self, dependency: Dependency) -> Tuple[Place, Tuple[Place, ...]]:
@@ -45,38 +46,47 @@ class Places:
         path = dependency.package_manifest
         manifest = self._read.get(path)
         if manifest is None:
-            manifest = self._read[path] = Manifest(text_of(path))
-        shown = os.path.relpath(path, self._base)
+            shown = os.path.relpath(path, self._base)
+            manifest = self._read[path] = Manifest(shown, text_of(path), self._spellings)
         found = manifest.next_of(dependency)
         if found is None:
-            return Place(shown, None), ()
-        name = Place(shown, manifest.region_of(found.name))
-        if found.condition is None:
-            return name, ()
-        return Place(shown, manifest.region_of(found.condition)), (name,)
+            return Place(manifest.path, None), ()
+        name = manifest.place_of(found.name)
+        return (name, ()) if found.condition is None else (
+            manifest.place_of(found.condition), (name,)
+        )
 
 
 class Manifest:
-    """The places in a manifest."""
+    """The places in a manifest, which are told with a path."""
 
-    def __init__(self, text: str) -> None:
+    def __init__(self, path: str, text: str, spellings: "Spellings") -> None:
+        self.path = path
         self._lines = Lines(text)
+        self._spellings = spellings
         self._found: Dict[Named, Deque[Found]] = {}
-        for named, found in distinct(text):
+        for key in dependencies_in(text):
+            named = KINDS[key.path[-2]], key.path[-1], self._spelt(*key.path[1:-2])
+            condition = key.spans[1] if len(key.path) == MOST else None
+            found = Found(condition, key.spans[-1])
             self._found.setdefault(named, collections.deque()).append(found)
+
+    def _spelt(self, condition: Optional[str] = None) -> Optional[str]:
+        """Returns how a condition is compared with others."""
+        return None if condition is None else self._spellings[condition]
 
     def next_of(self, dependency: Dependency) -> Optional[Found]:
         """Returns where a dependency stands. If several are alike, the places come in turn."""
-        condition = dependency.condition
-        spelt = None if condition is None else spelling_of(condition)
+        spelt = self._spelt(dependency.condition)
         found = self._found.get((dependency.kind, dependency.name, spelt))
         if found is None:
             return None
         return found.popleft() if len(found) > 1 else found[0]
 
-    def region_of(self, span: Span) -> Region:
-        """Returns the lines and columns of a part of the manifest."""
-        return Region(*self._lines.place_of(span.start), *self._lines.place_of(span.end))
+    def place_of(self, span: Span) -> Place:
+        """Returns the place of a part of the manifest."""
+        first, end = self._lines.place_of(span.start), self._lines.place_of(span.end)
+        return Place(self.path, Region(*first, *end))
 
 
 def text_of(path: str) -> str:
@@ -88,37 +98,34 @@ def text_of(path: str) -> str:
         return ""
 
 
-def distinct(text: str) -> Iterator[Tuple[Named, Found]]:
-    """Yields the dependencies in the text of a manifest, each where its first key stands."""
+def dependencies_in(text: str) -> Iterator[Key]:
+    """Yields the keys of the dependencies in the text of a manifest, each where it stands first."""
     seen: Dict[Tuple[str, ...], None] = {}
     try:
         for key in keys_in(text, MOST):
-            size = size_of(key)
-            if size and key.path[:size] not in seen:
-                seen[key.path[:size]] = None
-                yield named(key, size), found_at(key, size)
+            size = size_of(key.path)
+            path = key.path[:size]
+            if size and path not in seen:
+                seen[path] = None
+                yield Key(path, key.spans[:size])
     except TomlError:
         # Cargo took the text, so it has changed since, or has a form that is newer than this.
         return
 
 
-def size_of(key: Key) -> int:
-    """Returns how many keys lead to the dependency at a key or above it, or 0 if there is none."""
-    path = key.path
+def size_of(path: Tuple[str, ...]) -> int:
+    """Returns how many keys of a path lead to a dependency, or 0 if it leads to none."""
     if len(path) >= 2 and path[0] in KINDS:
         return 2
-    return 4 if len(path) >= 4 and path[0] == TARGET and path[2] in KINDS else 0
+    return MOST if len(path) >= MOST and path[0] == TARGET and path[2] in KINDS else 0
 
 
-def named(key: Key, size: int) -> Named:
-    """Returns the dependency to which so many keys lead."""
-    condition = spelling_of(key.path[1]) if size > 2 else None
-    return KINDS[key.path[size - 2]], key.path[size - 1], condition
+class Spellings(Dict[str, str]):
+    """How conditions are compared with others. Many dependencies may share a long one."""
 
-
-def found_at(key: Key, size: int) -> Found:
-    """Returns where the dependency stands to which so many keys lead."""
-    return Found(key.spans[1] if size > 2 else None, key.spans[size - 1])
+    def __missing__(self, condition: str) -> str:
+        found = self[condition] = spelling_of(condition)
+        return found
 
 
 def spelling_of(condition: str) -> str:
