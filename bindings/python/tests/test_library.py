@@ -346,10 +346,10 @@ class Project(unittest.TestCase):
     """What pip is told of the package, and what it exports."""
 
     def fields(self, name):
-        """Returns what stands in quotes in a line of the project."""
+        """Returns what stands in quotes in a value of the project, a list or a line."""
         with open(PROJECT, encoding="utf-8") as file:
-            line, = re.findall(rf"^{name} = (.*)$", file.read(), re.MULTILINE)
-        return re.findall(r'"(.*?)"', line)
+            value, = re.findall(rf"^{name} = (\[[^]]*\]|.*)$", file.read(), re.MULTILINE)
+        return re.findall(r'"(.*?)"', value)
 
     def test_its_version(self):
         """The first number is that of the language, as for the calls."""
@@ -363,10 +363,10 @@ class Project(unittest.TestCase):
         numbers = numbers_of("VERSION")
         self.assertEqual(NAME, f"libcfgx.so.{numbers['LANGUAGE']}.{numbers['MAJOR']}")
         *files, library, macos, windows = self.fields("cfgx")
-        self.assertEqual(files, ["py.typed", _targets.NAME])
+        self.assertEqual(files, ["py.typed", _targets.NAME, "manifest/schema.json"])
         self.assertTrue(fnmatch.fnmatch(NAME, library), library)
         self.assertEqual({"darwin": macos, "win32": windows}, _library.NAMES)
-        for name in ("py.typed", _targets.NAME):
+        for name in files:
             self.assertTrue(os.path.exists(os.path.join(PACKAGE, "cfgx", name)))
 
     def test_the_python_that_it_needs(self):

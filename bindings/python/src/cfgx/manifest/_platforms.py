@@ -7,9 +7,9 @@ from typing import FrozenSet, Iterable, List, Mapping, Optional, Sequence, Tuple
 
 import cfgx
 
-from .. import _process
+from .. import _files, _process
 from .._facts import lines_of
-from . import _cargo, _files, _flags
+from . import _cargo, _flags
 from ._errors import CompilerError, FactsError, RequestError
 
 # The names that stand for all targets and for the host.
@@ -123,6 +123,14 @@ class Compiler:
 
 
 Source = Union[Table, Compiler]
+
+
+def source_of(
+    flags: Flags, environment: Mapping[str, str], asks_rustc: bool, cargo_timeout: float
+) -> Source:
+    """Returns what says the facts: the compiler if it is asked, and else the table. Raises
+    `RequestError`."""
+    return Compiler(flags, environment) if asks_rustc else Table(flags, cargo_timeout)
 
 
 def facts_in(lines: Iterable[str], where: str) -> FrozenSet[str]:
