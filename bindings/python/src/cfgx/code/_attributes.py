@@ -67,6 +67,8 @@ def attributes_from(skim: Skim, place: int, end: int) -> Tuple[List[Attribute], 
         if token is None or token.kind is Kind.DOC:
             place = behind
             continue
+        if token.start >= end:
+            break
         one = attribute_at(skim, token.start) if skim.text[token.start] == "#" else None
         if one is None or (found and found[0].is_inner is not one.is_inner):
             return found, token.start
@@ -92,6 +94,8 @@ def level_tokens(skim: Skim, place: int, end: int) -> Iterator[Token]:
         token, place = next_token(skim.text, place)
         if token is None:
             continue
+        if token.start >= end:
+            return
         if token.kind is Kind.OPEN:
             place = min(skim.end_of(token.start) + 1, end)
             token = token._replace(end=place)

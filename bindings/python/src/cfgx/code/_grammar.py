@@ -5,11 +5,11 @@ makes the text of it that the engine reads: without comments, with the value of 
 with the name of each raw identifier. It refuses what rustc refuses.
 """
 import dataclasses
-import enum
 import re
 from typing import Iterable, List, NamedTuple, Optional, Sequence, Tuple
 
 from ._lexer import Kind, Token
+from ._model import Reason
 
 FUNCTIONS = ("all", "any", "not")
 # What a nightly rustc takes as functions.
@@ -37,34 +37,6 @@ ESCAPED = re.compile(
 SIMPLE = {"n": "\n", "r": "\r", "t": "\t", "0": "\0", "'": "'", '"': '"', "\\": "\\"}
 # Digits of an escape `\u{..}`, and the surrogates, which are no characters.
 MOST_DIGITS, LAST, SURROGATES = 6, 0x10FFFF, range(0xD800, 0xE000)
-
-
-class Reason(enum.Enum):
-    """Why a condition has no text."""
-
-    VARIABLE = "a variable of a macro stands there"
-    """Only the macro knows what stands for `$x`."""
-    QUOTE = "the value has a quote"
-    """No text of a condition holds it."""
-    NAME = "no text of a condition holds this name"
-    """It is not ASCII, or `all`, `any`, `not`, `r#true` or `r#false` as the name of a flag."""
-    FUNCTION = "only a nightly rustc takes this"
-    """`accessible`, `target` or `version` as a function."""
-    MEMBERS = "not() takes 1 predicate"
-    """A `not` has no member or several."""
-    ROOTS = "there has to be 1 predicate"
-    """The condition has no member or several."""
-    UNEXPECTED = "this may not stand here"
-    """A token may not stand there."""
-    UNKNOWN = "there is no such function"
-    """A function is none of `all`, `any` and `not`."""
-    VALUE = "a value is a string without a prefix or a suffix"
-    """A literal of another kind, or a string with an escape that rustc refuses."""
-
-    @property
-    def is_fault(self) -> bool:
-        """Whether rustc refuses the condition. Otherwise it is not read here."""
-        return self not in (Reason.VARIABLE, Reason.QUOTE, Reason.NAME, Reason.FUNCTION)
 
 
 class ConditionError(Exception):

@@ -34,9 +34,8 @@ PAIRS = {"(": ")", "[": "]", "{": "}"}
 # A doc comment is a token, since it stands for an attribute. `////`, `/***` and `/**/` begin none.
 DOC = re.compile(r"///(?!/)|//!|/\*\*(?![*/])|/\*!")
 
-TOKEN = re.compile(rf"""
-    (?P<space>[{SPACE}]+)
-    |(?P<line>//[^\n]*)
+TOKEN = re.compile(rf"""[{SPACE}]*(?:
+    (?P<line>//[^\n]*)
     |(?P<block>/\*)
     |(?P<raw>(?:r|br|cr)\#*")
     |(?P<string>[bc]?")
@@ -46,7 +45,8 @@ TOKEN = re.compile(rf"""
     |(?P<open>[(\[{{])
     |(?P<close>[)\]}}])
     |(?P<mark>=>|->|::|==|!=|<=|>=|.)
-""", re.VERBOSE | re.DOTALL)
+    |(?P<nothing>\Z)
+)""", re.VERBOSE | re.DOTALL)
 
 # What `skim` looks for. Strings, characters and lifetimes of the usual forms have no group: nothing
 # is to be done for them. Before any other form, the word is looked at that it may begin with.
@@ -113,9 +113,8 @@ BY_GROUP = {
     TOKEN.groupindex[kind.value]: kind
     for kind in (Kind.WORD, Kind.RAW_WORD, Kind.OPEN, Kind.CLOSE, Kind.MARK)
 }
-SPACES, LINES, BLOCKS, RAW_STRINGS, STRINGS, CHARACTERS = (
-    TOKEN.groupindex[name]
-    for name in ("space", "line", "block", "raw", "string", "character")
+LINES, BLOCKS, RAW_STRINGS, STRINGS, NOTHING = (
+    TOKEN.groupindex[name] for name in ("line", "block", "raw", "string", "nothing")
 )
 
 
@@ -181,34 +180,36 @@ def tokens_in(text: str, start: int, end: int) -> Iterator[Token]:
     place = start
     while place < end:
         token, place = next_token(text, place)
-        if token is not None:
+        if token is not None and token.start < end:
             yield token
 
 
 def next_token(text: str, place: int) -> Tuple[Optional[Token], int]:
-    """Returns the token at a place, or `None` for white space or a comment, and the place behind
-    it. Raises `TokenError`."""
+    """Returns the token at a place, perhaps behind white space, and the place behind it. Returns
+    `None` for a comment and at the end of the text. Raises `TokenError`."""
     found = TOKEN.match(text, place)
     if found is None or found.lastindex is None:
         raise TokenError(place, "no token begins here")
     group, end = found.lastindex, found.end()
-    if group in BY_GROUP:
-        return Token(BY_GROUP[group], place, end), end
-    if group == SPACES:
+    start = found.start(group)
+    kind = BY_GROUP.get(group)
+    if kind is not None:
+        return Token(kind, start, end), end
+    if group == NOTHING:
         return None, end
     if group in (LINES, BLOCKS):
-        end = end if group == LINES else comment_end(text, place)
-        return (Token(Kind.DOC, place, end) if DOC.match(text, place) else None), end
-    token = literal_of(text, found)
+        end = end if group == LINES else comment_end(text, start)
+        return (Token(Kind.DOC, start, end) if DOC.match(text, start) else None), end
+    token = literal_of(text, start, found)
     return token, token.end
 
 
-def literal_of(text: str, found: "re.Match[str]") -> Token:
-    """Returns the literal or the lifetime whose start is found."""
-    start, group, quote = found.start(), found.lastindex, found.end() - 1
+def literal_of(text: str, start: int, found: "re.Match[str]") -> Token:
+    """Returns the literal or the lifetime that begins at a place, whose first quote is found."""
+    group, quote = found.lastindex, found.end() - 1
     if group == RAW_STRINGS:
         kind = Kind.RAW_STRING if text[start] == "r" else Kind.LITERAL
-        return Token(kind, start, raw_string_end(text, quote, found[0].count("#")))
+        return Token(kind, start, raw_string_end(text, quote, text.count("#", start, quote)))
     if group == STRINGS:
         kind = Kind.STRING if start == quote else Kind.LITERAL
         return Token(kind, start, string_end(text, quote))
@@ -241,9 +242,9 @@ class Skim:
         """Goes over the text. Stops where it has no tokens, or where a delimiter is closed that is
         not open, and keeps the reason."""
         self.text = text
-        # The groups in the order of their starts: where each begins and ends, and the number of the
-        # group around it. An end is the place of the delimiter, or that of the end of the text.
-        self.starts, self.ends, self.parents = array("q"), array("q"), array("q")
+        # The groups in the order of their starts: where each begins and ends. An end is the place of
+        # the delimiter, or that of the end of the text.
+        self.starts, self.ends = array("q"), array("q")
         # Where `#` and the names of macros stand, and the numbers of the groups around them.
         self.pounds: List[Tuple[int, int]] = []
         self.names: List[Tuple[int, int]] = []
@@ -263,39 +264,33 @@ class Skim:
     def _on_from(self, place: int) -> Optional[int]:
         """Goes on from a place. Returns where to go on behind a literal or a comment that has no
         usual form, or `None` at the end."""
-        for found in SKIMMED.finditer(self.text, place):
+        text, opened, starts, ends = self.text, self._open, self.starts, self.ends
+        for found in SKIMMED.finditer(text, place):
             group = found.lastindex
             if group is None:
                 continue
+            start = found.start()
             if group == OPEN:
-                self._opened(found.start())
+                opened.append(len(starts))
+                starts.append(start)
+                ends.append(len(text))
             elif group == CLOSE:
-                self._closed(found.start())
-            elif group == NAME:
-                self.names.append((found.start(), self._around()))
-            elif group == POUND:
-                if OTHER_ATTRIBUTE.match(self.text, found.start()) is None:
-                    self.pounds.append((found.start(), self._around()))
+                if not opened or PAIRS[text[starts[opened[-1]]]] != text[start]:
+                    raise TokenError(start, "a delimiter is closed that is not open")
+                ends[opened.pop()] = start
+            elif group in (NAME, POUND):
+                self._marked(group, start)
             else:
-                return self._past(group, found.start())
+                return self._past(group, start)
         return None
 
-    def _around(self) -> int:
-        """Returns the number of the innermost open group, or -1."""
-        return self._open[-1] if self._open else -1
-
-    def _opened(self, place: int) -> None:
-        """Begins a group."""
-        self.parents.append(self._around())
-        self._open.append(len(self.starts))
-        self.starts.append(place)
-        self.ends.append(len(self.text))
-
-    def _closed(self, place: int) -> None:
-        """Ends the innermost group."""
-        if not self._open or PAIRS[self.text[self.starts[self._open[-1]]]] != self.text[place]:
-            raise TokenError(place, "a delimiter is closed that is not open")
-        self.ends[self._open.pop()] = place
+    def _marked(self, group: int, place: int) -> None:
+        """Keeps the place of a `#` or of the name of a macro."""
+        around = self._open[-1] if self._open else -1
+        if group == NAME:
+            self.names.append((place, around))
+        elif OTHER_ATTRIBUTE.match(self.text, place) is None:
+            self.pounds.append((place, around))
 
     def _past(self, group: int, start: int) -> int:
         """Returns the place behind a literal or a comment."""

@@ -3,7 +3,6 @@
 A *guard* is a condition that has to hold for a piece of the code to be compiled. Guards stand
 inside of one another, as the pieces do.
 """
-import enum
 import heapq
 from bisect import bisect_right
 from typing import Dict, Iterable, Iterator, List, NamedTuple, Optional, Sequence, Set, Tuple
@@ -14,25 +13,11 @@ from ._attributes import (
 )
 from ._grammar import ConditionError, Reason, Written, read_condition
 from ._lexer import Kind, Skim, Token, TokenError, tokens_in
+from ._model import Form
 from ._things import SPACES, Cursor, Space, Thing, pass_arm, thing_at
 
 # How many `cfg_attr` inside of one another tell what an attribute stands on when it is there.
 MOST_NESTED = 16
-
-
-class Form(enum.Enum):
-    """Where a condition stands."""
-
-    CFG = "cfg"
-    """In `#[cfg(..)]`, also inside of `cfg_attr`."""
-    CFG_ATTR = "cfg_attr"
-    """In `#[cfg_attr(.., ..)]`, before the first comma."""
-    MACRO = "cfg!"
-    """In `cfg!(..)`."""
-    CFG_IF = "cfg_if!"
-    """In front of a branch of `cfg_if!`."""
-    CFG_SELECT = "cfg_select!"
-    """In front of a branch of `cfg_select!`."""
 
 
 ATTRIBUTES = {"cfg": Form.CFG, "cfg_attr": Form.CFG_ATTR}
@@ -344,11 +329,16 @@ class Reading:
                 if thing.kind in SPACES and thing.name:
                     members = by_name.setdefault((SPACES[thing.kind], thing.name), [])
                     members.append(Member(thing, self._guard_of(thing)))
-        _, first = attributes_from(self.skim, self._start_of(scope), self._end_of(scope))
-        guard = self._guard_at(first)
+        guard = self._guard_in(scope)
         for members in by_name.values():
             if len(members) > 1 and any(one.guard is not guard for one in members):
                 yield Twins(sorted(members, key=lambda one: one.thing.start), guard)
+
+    def _guard_in(self, group: int) -> Optional[Guard]:
+        """Returns the innermost guard of a whole group, behind its inner attributes."""
+        start = self._start_of(group)
+        attributes, behind = attributes_from(self.skim, start, self._end_of(group))
+        return self._guard_at(behind if attributes and attributes[0].is_inner else start)
 
     def _start_of(self, group: int) -> int:
         """Returns where the first token of a group may begin, or that of the text."""

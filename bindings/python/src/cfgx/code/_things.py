@@ -5,6 +5,7 @@ expression. Its end is found by the tokens beside it, where each group between d
 one token. In doubt it is found too early: so nothing counts as a part of it that is none.
 """
 import enum
+import re
 from typing import List, NamedTuple, Optional
 
 from ._attributes import level_tokens
@@ -35,6 +36,15 @@ BLOCKS = ("unsafe", "loop", "async", "const", "try", "gen")
 CONTINUING = (".", "?")
 # What stands behind a group in a pattern, in front of the body.
 BEHIND_PATTERN = ("=", "|", "in")
+
+
+# An item of a usual form, which is found at once: a constant, a static or a type without groups
+# between delimiters, literals with quotes and comments, or a function without a body.
+PLAIN = r"[^;(){}\[\]\"'/#]*"
+USUAL = re.compile(
+    rf"(?:pub(?:\([a-z]+\))?\s+)?(?:(const|static|type)\s+([A-Za-z_]\w*)\s*[:=]{PLAIN};"
+    rf"|(fn)\s+([A-Za-z_]\w*)\({PLAIN}\){PLAIN};)"
+)
 
 
 class Thing(NamedTuple):
@@ -97,6 +107,10 @@ class Cursor:
 def thing_at(skim: Skim, place: int, end: int) -> Optional[Thing]:
     """Returns what begins at a place, behind its attributes, in a group that ends at another place.
     Returns `None` if nothing does."""
+    usual = USUAL.match(skim.text, place)
+    if usual is not None:
+        kind, name = (usual[1], usual[2]) if usual[1] else (usual[3], usual[4])
+        return Thing(place, usual.end(), kind, "" if name == "_" else name, None)
     cursor = Cursor(skim, place, end)
     first = cursor.token()
     if first is None:
