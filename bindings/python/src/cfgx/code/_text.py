@@ -1,12 +1,12 @@
 """A report as text: each condition with its line, and a mark under it."""
 import collections
 import itertools
-from typing import Dict, Iterable, Iterator, List, Optional, Sequence, Set, Tuple
+from typing import Dict, FrozenSet, Iterable, Iterator, List, Optional, Sequence, Tuple
 
 from .._terminal import Colour, cells_of, coloured, shown, wrapped
 from ..manifest._table import examples_of
 from ._findings import name_of
-from ._model import Condition, Guard, Place
+from ._model import Guard, Place
 from ._names import CHOICES, NONE, TWO
 from ._report import File, Report, counted, systems_of
 from ._values import Answer, GroupRow, Row, Verdict
@@ -66,8 +66,7 @@ class Printer:
     def _file_lines(self, file: File) -> Iterator[str]:
         """Yields the lines on a file."""
         rows: List[Tuple[Place, Optional[Row], Optional[GroupRow]]] = [
-            (row.condition.place, row, None) for row in file.rows
-            if not self._only or choice_of(row.verdict) in self._only
+            (row.condition.place, row, None) for row in chosen_rows(file, self._only)
         ]
         rows += [(row.group.place, None, row) for row in file.groups]
         source = Lines(file.text)
@@ -229,11 +228,6 @@ def summary_lines(report: Report) -> Iterator[str]:
     yield counts_of(report)
 
 
-def chosen_rows(file: File, only: Set[str]) -> List[Row]:
+def chosen_rows(file: File, only: FrozenSet[str]) -> List[Row]:
     """Returns the conditions of a file that were chosen."""
     return [row for row in file.rows if not only or choice_of(row.verdict) in only]
-
-
-def condition_text(one: Condition) -> str:
-    """Returns the text of a condition, or nothing if it has none."""
-    return one.text or ""
