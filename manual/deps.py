@@ -12,6 +12,8 @@ from roff import Page, bold, code, escaped, italic, reference
 
 ROOT = os.path.dirname(os.path.dirname(os.path.abspath(__file__)))
 PACKAGE = "bindings/python/src/cfgx"
+# The table of targets, whose lines begin with a triple and a tab, below two others.
+TARGETS = f"{PACKAGE}/targets.tsv"
 MANUAL = "User Commands"
 NAME = "cfgx-deps"
 # Where pip puts the page with all that the command does, below the folder of the environment.
@@ -46,6 +48,11 @@ def text() -> str:
     # Later versions of Python colour what they print on a terminal.
     made.color = False
     return made.format_help()
+
+
+def targets(table: str) -> List[str]:
+    """Returns the triples in the table of targets."""
+    return [line.split("\t")[0] for line in table.splitlines()[2:]]
 
 
 def help_of(printed: str) -> Help:

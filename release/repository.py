@@ -59,6 +59,17 @@ def version() -> str:
     return ".".join(numbers)
 
 
+def soname() -> str:
+    """Returns the name by which the loader of Linux finds the shared object: it has the first two
+    numbers of the version."""
+    return "libcfgx.so." + version().rsplit(".", 1)[0]
+
+
+def first_line(tool: str) -> str:
+    """Returns the first line of what a tool prints of its version. Raises `ToolError`."""
+    return output_of(tool, "--version").split("\n")[0]
+
+
 def project(name: str) -> List[str]:
     """Returns what stands in quotes in the line of this name in the project of the package."""
     line, = re.findall(rf"^{name} = (.*)$", read_text(PROJECT), re.M)

@@ -1,8 +1,13 @@
 """The tests of the package. They take the library that CFGX_LIBRARY names, or else the one that
 `crates/cfgx_c/install out/cfgx` leaves in the repository, or else link the archive that `rt lib`
-leaves in crates/cfgx_c."""
+leaves in crates/cfgx_c.
+
+If CFGX_PACKAGE names a folder, into which pip put a wheel, they take the package and the library
+there. If CFGX_PYTHON has words, they start Python by these: for another processor, which this
+machine does not run by itself."""
 import atexit
 import functools
+import importlib.util
 import os
 import shutil
 import subprocess
@@ -11,7 +16,9 @@ import tempfile
 import unittest
 
 HERE = os.path.dirname(os.path.abspath(__file__))
-PACKAGE = os.path.join(HERE, "..", "src")
+INSTALLED_PACKAGE = os.environ.get("CFGX_PACKAGE")
+PACKAGE = INSTALLED_PACKAGE or os.path.join(HERE, "..", "src")
+PYTHON = os.environ.get("CFGX_PYTHON", "").split() or [sys.executable]
 ROOT = os.path.abspath(os.path.join(HERE, "..", "..", ".."))
 ARCHIVE = os.path.join(ROOT, "crates", "cfgx_c", "out", "libcfgx_c.a")
 INSTALLED = os.path.join(ROOT, "out", "cfgx", "lib", "libcfgx.so")
@@ -42,7 +49,11 @@ def is_there(name):
         return sys.version_info >= (3, 11)
     if name == "Linux":
         return sys.platform == "linux"
-    if name not in ("cargo", "jq", "mypy", "rustc"):
+    if name == "limit of memory":
+        return "qemu" not in PYTHON[0]
+    if name in ("setuptools", "tomli"):
+        return importlib.util.find_spec(name) is not None
+    if name not in ("bash", "cargo", "fish", "jq", "mypy", "rustc", "zsh"):
         raise ValueError(name)
     # A tool that rustup stands in for may lack its toolchain.
     pipe = subprocess.PIPE
@@ -61,7 +72,7 @@ def needs(*names, untested):
     return unittest.skipIf(missing, reason)
 
 
-if "CFGX_LIBRARY" not in os.environ:
+if "CFGX_LIBRARY" not in os.environ and not INSTALLED_PACKAGE:
     if os.path.exists(INSTALLED):
         os.environ["CFGX_LIBRARY"] = INSTALLED
     elif os.path.exists(ARCHIVE):

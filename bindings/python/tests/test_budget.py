@@ -92,8 +92,7 @@ class Costs(Made):
     def list_conditions(self, conditions):
         """Makes `cargo` list a dependency for each of some conditions, with all that a real one
         says, as long as a manifest has a megabyte. Returns how many there are."""
-        usual = dependency_of("b", source="registry+https://github.com/rust-lang/crates.io-index",
-                              req="^1", uses_default_features=True, features=[], registry=None)
+        usual = dependency_of("b")
         size = itertools.accumulate(len(f'"cfg({one})".dependencies.b="1"\n'.encode())
                                     for one in conditions)
         fitting = [one for one, end in zip(conditions, size) if end <= MOST - len(HEAD)]
@@ -153,8 +152,7 @@ class Costs(Made):
         flags = ",".join(f"f{number}" for number in range(12))
         forms = ["--format=table"], ["--format=tsv", "--summary"], ["--format=json"]
         for target, words in zip((None, None, f"cfg(any({flags}))"), forms):
-            usual = dependency_of("b", target, req="^1", uses_default_features=True, features=[],
-                                  source="registry+https://github.com/rust-lang/crates.io-index")
+            usual = dependency_of("b", target)
             self.list(*({**usual, "name": f"a{number}"} for number in range(90_000)))
             with self.subTest(target=target, words=words):
                 self.assert_bounded(*words)

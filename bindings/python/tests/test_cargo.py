@@ -129,7 +129,8 @@ class Listed(Folder):
         for kinds in (("proc-macro", "bin"), ("bin", "proc-macro", "test")):
             targets = [{"kind": [kind], "crate_types": [kind]} for kind in kinds]
             one = _cargo.package_of(
-                {"name": "a", "manifest_path": "/a", "targets": targets, "dependencies": []}
+                {"name": "a", "version": "1.0.0", "id": "a", "source": None,
+                 "manifest_path": "/a", "targets": targets, "dependencies": []}
             )
             self.assertEqual((one.has_macro, one.has_target_units), (True, True))
 

@@ -10,8 +10,8 @@ import unittest.mock
 from . import needs
 from .test_command import HOST, Made
 
-from cfgx import _process, manifest
-from cfgx.manifest import _cargo, _files, _flags, _platforms
+from cfgx import _files, _process, manifest
+from cfgx.manifest import _cargo, _flags, _platforms
 
 MOST = 1 << 20
 SPARSE = 4 << 30
@@ -211,7 +211,7 @@ class Commands(Made):
             raise KeyboardInterrupt
 
         with unittest.mock.patch.dict("os.environ", PATH=path), \
-                unittest.mock.patch.object(_process, "read_once", interrupt), \
+                unittest.mock.patch.object(_process, "next_read", interrupt), \
                 self.assertRaises(KeyboardInterrupt):
             manifest.report(self.path)
         self.assert_ended(mark)

@@ -10,8 +10,8 @@ from .made import Shell
 
 import cfgx
 import cfgx.manifest
-from cfgx import _command
-from cfgx.manifest import _cargo, _files, _flags, _search
+from cfgx import _command, _files
+from cfgx.manifest import _cargo, _flags, _search
 
 PAGE = os.path.join(ROOT, "docs", "PYTHON.md")
 README = os.path.join(ROOT, "README.md")

@@ -19,6 +19,7 @@ mod memory;
 mod named;
 mod packaged;
 mod patched;
+mod platforms;
 mod predicates;
 mod programs;
 mod real;

@@ -21,15 +21,18 @@ own, such as `loom`, is unknown where flags may be set.
 ...     print(type(error).__name__, error)
 RequestError tests is no kind: one is normal, dev or build
 """
-from ._cargo import Dependency
+from ._cargo import Dependency, Package, Source
 from ._conditions import Fault, Unknown
 from ._errors import CargoError, CompilerError, FactsError, ManifestError, RequestError
+from ._graph import Features
 from ._platforms import Platform
 from ._report import Report, Row, Value, report
+from ._resolved import Leg, Resolved, Route, Used, resolved
 
 __all__ = [
-    "CargoError", "CompilerError", "Dependency", "FactsError", "Fault", "ManifestError", "Platform",
-    "Report", "RequestError", "Row", "Unknown", "Value", "report",
+    "CargoError", "CompilerError", "Dependency", "FactsError", "Fault", "Features", "Leg",
+    "ManifestError", "Package", "Platform", "Report", "RequestError", "Resolved", "Route", "Row",
+    "Source", "Unknown", "Used", "Value", "report", "resolved",
 ]
 
 # Tracebacks and pages name the module that callers import from.

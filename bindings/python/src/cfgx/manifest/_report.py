@@ -104,10 +104,7 @@ def report(
     _cargo.expect_time(cargo_timeout)
     variables = os.environ if environment is None else environment
     known = Flags(tuple(flags), tuple(rustflags or ()), has_other_flags)
-    source: _platforms.Source = (
-        _platforms.Compiler(known, variables) if asks_rustc
-        else _platforms.Table(known, cargo_timeout)
-    )
+    source = _platforms.source_of(known, variables, asks_rustc, cargo_timeout)
     path = _cargo.manifest_at(manifest)
     workspace = _cargo.workspace_of(path, cargo_timeout)
     chosen = workspace.chosen(packages, is_workspace)

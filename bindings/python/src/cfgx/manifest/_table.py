@@ -5,8 +5,8 @@ from typing import (
     Callable, Dict, Iterable, Iterator, List, NamedTuple, Optional, Sequence, Tuple,
 )
 
+from .._terminal import shown
 from ._conditions import Unknown, groups_in
-from ._errors import shown
 from ._once import Once
 from ._report import Report, Row, Value
 from ._summary import MOST_NAMED, Summary, summary_of
@@ -79,8 +79,13 @@ def summary_table_of(report: Report, width: Optional[int]) -> Iterator[str]:
 
 def smaller_group_of(row: Row, summary: Summary) -> str:
     """Returns the cell with the value of the smaller group, and the names of its platforms."""
-    if row.is_never or summary.smaller is None:
-        return "never" if row.is_never else ""
+    return smaller_group(summary, row.is_never)
+
+
+def smaller_group(summary: Summary, is_never: bool) -> str:
+    """Returns the value of the smaller group and the names of its platforms, or `never`."""
+    if is_never or summary.smaller is None:
+        return "never" if is_never else ""
     more = [CUT] if summary.counts[summary.smaller] > MOST_NAMED else []
     return shown(f"{summary.smaller.value}: {', '.join([*summary.names, *more])}")
 

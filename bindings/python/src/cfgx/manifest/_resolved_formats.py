@@ -1,0 +1,203 @@
+"""The packages of a lock file, as a table for a terminal and for programs."""
+import collections
+import json
+from typing import Dict, FrozenSet, Iterator, List, Mapping, Optional, Sequence, Tuple
+
+from . import _table
+from ._cargo import Package
+from ._errors import shown
+from ._formats import TRUTH, VERSION, YES_OR_NO, list_of, members, platform_list, summary_members
+from ._formats import tabbed
+from ._once import Once
+from ._report import Value
+from ._resolved import Leg, Resolved, Route, Used
+from ._summary import summary_of
+from ._table import COUNTED, EXPLANATION, Grid
+
+# What stands between the packages of a way, and in front of one whose first steps are left out.
+STEP, OMITTED = " > ", ".."
+# What stands behind a value of a package that is built for the host alone.
+FOR_HOST = " (host)"
+
+
+class Names:
+    """The names of packages in a report: with the version, if several have the name."""
+
+    def __init__(self, report: Resolved) -> None:
+        counts = collections.Counter(row.package.name for row in report.rows)
+        self._repeated: FrozenSet[str] = frozenset(
+            name for name, count in counts.items() if count > 1
+        )
+
+    def way(self, route: Route) -> str:
+        """Returns a way in a line: the packages, and behind each its kind and condition."""
+        start = [OMITTED] if route.omitted else []
+        return STEP.join([*start, self._name(route.start), *map(self._leg, route.legs)])
+
+    def _name(self, package: Package) -> str:
+        """Returns the name of a package."""
+        name = package.name
+        return f"{name}@{package.version}" if name in self._repeated else name
+
+    def _leg(self, leg: Leg) -> str:
+        """Returns a step of a way."""
+        marks = [f"({leg.kind})"] if leg.kind != "normal" else []
+        marks += [f"[{leg.condition}]"] if leg.condition is not None else []
+        return " ".join([self._name(leg.package), *marks])
+
+
+def table_of(report: Resolved, width: Optional[int], is_summary: bool) -> Iterator[str]:
+    """Yields the lines of a table with a column for each platform, or with the number of platforms
+    that have each value. Without a width, no line is cut."""
+    names = Names(report)
+    fronts = [
+        ["package", *(shown(row.package.name) for row in report.rows)],
+        ["version", *(shown(row.package.version) for row in report.rows)],
+    ]
+    heads, cells = summary_cells(report) if is_summary else value_cells(report)
+    ways = [shown(names.way(row.routes[0])) if row.routes else "" for row in report.rows]
+    yield from _table.lines_of(Grid(fronts, heads, cells, ["shortest way", *ways]), width)
+    yield from explained(report)
+    yield counted(report)
+
+
+def value_cells(report: Resolved) -> Tuple[List[str], List[Sequence[str]]]:
+    """Returns the heads and the cells of the columns of the platforms."""
+    heads = [shown(platform.name) for platform in report.platforms]
+    return heads, [cells_of(report, row) for row in report.rows]
+
+
+def cells_of(report: Resolved, row: Used) -> List[str]:
+    """Returns the values of a row as words. Where a package is built for the host alone, and there
+    is a target, the word says so."""
+    if report.platforms[0].is_host:
+        return [value.value for value in row.values]
+    return [
+        value.value + (FOR_HOST if value is not Value.NO and target is Value.NO else "")
+        for value, target in zip(row.values, row.for_target)
+    ]
+
+
+def summary_cells(report: Resolved) -> Tuple[List[str], List[Sequence[str]]]:
+    """Returns the heads and the cells of the columns of a summary."""
+    summaries = [summary_of(row.values, report.platforms) for row in report.rows]
+    cells = [
+        [*(str(summary.counts[value]) for value in COUNTED),
+         _table.smaller_group(summary, row.is_never)]
+        for row, summary in zip(report.rows, summaries)
+    ]
+    return [*(value.value for value in COUNTED), "smaller group"], cells
+
+
+def explained(report: Resolved) -> Iterator[str]:
+    """Yields lines with the flags on which ways depend, and the packages to which they lead."""
+    found: Dict[Tuple[str, ...], _table.Names] = {}
+    for row in report.rows:
+        flags = flags_of(row)
+        if flags:
+            name = f"{row.package.name} {row.package.version}"
+            found.setdefault(flags, _table.Names()).add(name)
+    if found:
+        yield EXPLANATION
+    for flags, names in found.items():
+        yield shown(f"  {', '.join(flags)}")
+        yield shown(f"    {names}")
+
+
+def flags_of(row: Used) -> Tuple[str, ...]:
+    """Returns the flags on which the unknown conditions on the way to a package depend."""
+    unknown = [route for route in row.routes if route.value is Value.UNKNOWN]
+    return tuple(sorted({flag for route in unknown for leg in route.legs for flag in leg.flags}))
+
+
+def counted(report: Resolved) -> str:
+    """Returns a line with the host and the number of packages by their values."""
+    groups = collections.Counter(_table.group_of(row.values) for row in report.rows)
+    order = ("yes", "no", "yes or no", "unknown")
+    counts = [f"{groups[name]} {name}" for name in order if groups[name] > 0]
+    count = len(report.rows)
+    packages = "1 package" if count == 1 else f"{count} packages"
+    return f"host {shown(report.host)}; {packages}: {', '.join(counts) or 'none'}"
+
+
+def json_of(report: Resolved, is_summary: bool) -> Iterator[str]:
+    """Yields the lines of one object of JSON, which is ASCII."""
+    yield f'{{"version": {VERSION},'
+    yield f'"manifest": {json.dumps(report.manifest_path)},'
+    yield f'"host": {json.dumps(report.host)},'
+    yield from list_of("platforms", platform_list(report.platforms))
+    yield from list_of("packages", map(Entries(report, is_summary).entry, report.rows))
+    yield f'"tried": {TRUTH[report.is_tried]},'
+    yield f'"notes": {json.dumps(report.notes)}}}'
+
+
+class Entries:
+    """Makes the objects of packages. Values that many of them share are written once."""
+
+    def __init__(self, report: Resolved, is_summary: bool) -> None:
+        def counts(values: Sequence[Value]) -> str:
+            return members(**summary_members(summary_of(values, report.platforms)))
+
+        self._values = Once(words_of)
+        self._summary = Once(counts) if is_summary else None
+
+    def entry(self, row: Used) -> str:
+        """Returns the object of a package."""
+        one = row.package
+        front = members(
+            name=one.name, version=one.version, id=one.identity, source=one.source.kind,
+            location=one.source.location, manifest=one.manifest_path, member=row.is_member,
+            features=row.features,
+        )
+        ways = json.dumps([way_members(route) for route in row.routes])
+        return f'{{{front}, {self._value_members(row)}, "ways": {ways}}}'
+
+    def _value_members(self, row: Used) -> str:
+        """Returns the members with the values of a package, or with their numbers."""
+        if self._summary is not None:
+            return self._summary(row.values)
+        each = ("values", row.values), ("for_target", row.for_target), ("for_host", row.for_host)
+        return ", ".join(f'"{name}": {self._values(values)}' for name, values in each)
+
+
+def words_of(values: Sequence[Value]) -> str:
+    """Returns a list of values."""
+    return json.dumps([value.value for value in values])
+
+
+def way_members(route: Route) -> Mapping[str, object]:
+    """Returns the members of a way."""
+    start = route.start
+    return {
+        "value": route.value.value, "platform": route.platform, "omitted": route.omitted,
+        "start": {"name": start.name, "version": start.version, "id": start.identity},
+        "steps": [step_members(leg) for leg in route.legs],
+    }
+
+
+def step_members(leg: Leg) -> Mapping[str, object]:
+    """Returns the members of a step of a way."""
+    return {
+        "name": leg.package.name, "version": leg.package.version, "id": leg.package.identity,
+        "kind": leg.kind, "condition": leg.condition, "value": leg.value.value,
+        "flags": leg.flags, "for_host": leg.is_host,
+    }
+
+
+def tsv_of(report: Resolved, is_summary: bool) -> Iterator[str]:
+    """Yields lines whose cells stand between tabs, the head first."""
+    heads, cells = value_cells(report)
+    if is_summary:
+        heads = [value.value for value in COUNTED]
+        cells = [
+            [str(summary.counts[value]) for value in COUNTED]
+            for row in report.rows for summary in [summary_of(row.values, report.platforms)]
+        ]
+    names = Names(report)
+    yield tabbed("package", "version", "source", "location", "member", *heads, "way")
+    for row, values in zip(report.rows, cells):
+        one = row.package
+        way = names.way(row.routes[0]) if row.routes else ""
+        yield tabbed(
+            one.name, one.version, *one.source, YES_OR_NO[row.is_member], *values, way
+        )
