@@ -406,6 +406,16 @@ shows("compares two conditions", async () => {
   await checkPicture(apple);
 });
 
+shows("conditions by the numbers of their lines", async () => {
+  await page.write("unix\n\n  \nwindows");
+  assert.deepEqual(await page.texts("#list .number"), ["1", "4"]);
+  assert.deepEqual(await page.texts("#first option"), ["1: unix", "4: windows"]);
+  assert.match((await told())[1], /^1 implies 4: not on every target/);
+  await page.click("#differences");
+  assert.equal(await page.text("#pictured"), "Where 1 and 4 differ");
+  assert.match(await page.text("#fault"), /^Line 4: true on /);
+});
+
 shows("compares conditions with what no target says", async () => {
   await page.write('target_os = "macos"\nwindows\nall(unix, feature = "x")');
   await page.choose("#second", "2");
