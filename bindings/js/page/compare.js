@@ -59,8 +59,8 @@ function implication(one, other, { target, answers, isWhole }) {
 /** Returns the sentence that says on how many targets two conditions differ. */
 function differences(values) {
   const [same, differ, may] = countsOf(values.numbers);
-  const open = may > 0 ? ` On ${counted(may, "target")} the unknown switches decide.` : "";
-  return `Their values differ on ${counted(differ, "target")}, and are the same on ${same}.${open}`;
+  const open = may > 0 ? `, ${may} as the switches say` : "";
+  return `Different on ${counted(differ, "target")}, the same on ${same}${open}.`;
 }
 
 /** Returns the number of the condition that is chosen, which is there. */

@@ -115,6 +115,12 @@ shows("shows the targets by system and processor", async () => {
   assert.equal(new Set(systems.map(([system]) => system)).size, systems.length);
 });
 
+shows("says of which rustc the targets are", async () => {
+  const [, version] = /^# Targets of rustc (\S+), /.exec(read("bindings/targets/targets.tsv"));
+  const said = `on the ${TARGETS.length} targets of rustc ${version}.`;
+  assert.ok((await page.text("header")).replace(/\s+/g, " ").includes(said));
+});
+
 shows("shows where a condition is true, in cells and counts", async () => {
   await page.write('all(unix, not(target_vendor = "apple"))');
   await checkPicture(triples((one) => isUnix(one) && !isApple(one)));
@@ -279,6 +285,21 @@ shows("shows a target, its facts and the tree", async () => {
   assert.match(await page.text("#why"), /^Choose a cell, /);
 });
 
+shows("shows a target within the window, wherever its cell is", async () => {
+  for (const width of [1280, 390]) {
+    await page.resize(width, 800);
+    await page.write("unix");
+    const last = await page.see('[...document.querySelectorAll(".cell")].at(-1).dataset.triple');
+    await choose(last);
+    assert.equal(await page.text("#why .triple"), last);
+    const [top, bottom, height] = await page.see(`(() => {
+      const { top, bottom } = document.querySelector("#why .verdict").getBoundingClientRect();
+      return [top, bottom, innerHeight];
+    })()`);
+    assert.ok(top >= 0 && bottom <= height, `${width}: ${top} to ${bottom} of ${height}`);
+  }
+});
+
 shows("shows the two fillings of what is unknown", async () => {
   await page.write('all(a, not(any(b, feature = "x")), unix, any(a, c))');
   await choose("x86_64-unknown-linux-gnu");
@@ -390,8 +411,7 @@ shows("compares two conditions", async () => {
   const apple = triples(isApple);
   const [counts, forth, back] = await told();
   const apart = apple.length - macos.length;
-  assert.equal(counts, `Their values differ on ${apart} targets, and are the same on ${
-    320 - apart}.`);
+  assert.equal(counts, `Different on ${apart} targets, the same on ${320 - apart}.`);
   assert.equal(forth, "1 implies 2: on every target, whatever the switches say.");
   const wanted = /^2 implies 1: not on every target\. On (\S+), 2 is yes and 1 is no\.$/;
   const [, triple] = wanted.exec(back);
@@ -406,7 +426,7 @@ shows("compares two conditions", async () => {
   await checkPicture(apple);
 });
 
-shows("conditions by the numbers of their lines", async () => {
+shows("names conditions by their lines", async () => {
   await page.write("unix\n\n  \nwindows");
   assert.deepEqual(await page.texts("#list .number"), ["1", "4"]);
   assert.deepEqual(await page.texts("#first option"), ["1: unix", "4: windows"]);
@@ -425,10 +445,10 @@ shows("compares conditions with what no target says", async () => {
   const [counts, forth, back] = await told();
   assert.match(forth, new RegExp(`^1 implies 3: ${start} off, 1 is yes and 3 is no\\.$`));
   assert.match(back, new RegExp(`^3 implies 1: ${start} on, 3 is yes and 1 is no\\.$`));
-  assert.equal(counts, `Their values differ on 0 targets, and are the same on ${
-    320 - unix.length}. On ${unix.length} targets the unknown switches decide.`);
+  assert.equal(counts, `Different on 0 targets, the same on ${320 - unix.length}, ${
+    unix.length} as the switches say.`);
   await decide('feature = "x"', "on");
-  assert.match((await told())[0], new RegExp(`differ on ${unix.length - macos.length} targets`));
+  assert.match((await told())[0], new RegExp(`^Different on ${unix.length - macos.length} targets`));
   // What the switches say changes nothing in the sentences about all of them.
   assert.deepEqual((await told()).slice(1), [forth, back]);
 });
