@@ -60,7 +60,7 @@ def damaged(source):
 
 def noise(source):
     """Returns pieces of texts and bytes at random."""
-    parts = [source.choice(PIECES) if source.random() < 0.8 else source.randbytes(3)
+    parts = [source.choice(PIECES) if source.random() < 0.8 else bytes(source.choices(range(256), k=3))
              for _ in range(source.randrange(12))]
     return b"".join(parts)
 
