@@ -20,8 +20,8 @@ from ._search import Budget, SpentError
 # How many steps of a way are kept: the last ones. Without a bound, the ways to the packages of a
 # chain would take the square of its length.
 MOST_STEPS = 50
-# What a step of the search for ways takes of the budget of a report.
-STEP = 300
+# What a step takes of the budget of a report, while ways are searched and in a way that is kept.
+STEP = 100
 
 
 class Place(NamedTuple):
@@ -175,7 +175,7 @@ class Ways:
         self._reached: Reached = {}
         self._arrivals: Dict[Place, List[Arrival]] = {}
         new: Reached = {}
-        for place in build.starts():
+        for place in build.starts() if platforms else ():
             self._arrive(place, Arrival(platforms, 0, None, None), new)
         length = 0
         try:
@@ -187,15 +187,23 @@ class Ways:
 
     def to(self, package: int, platform: int) -> Optional[Way]:
         """Returns a shortest way to a package on a platform, whatever it is built for, or `None` if
-        none was found."""
+        the budget does not suffice for it."""
         places = Place(package, False), Place(package, True)
         ends = [place for place in places if self._reached.get(place, 0) >> platform & 1]
         if not ends:
             return None
         place = min(ends, key=lambda one: self._arrival(one, platform).length)
+        try:
+            return self._way(place, platform)
+        except SpentError:
+            return None
+
+    def _way(self, place: Place, platform: int) -> Way:
+        """Returns a way to a place that is reached. Raises `SpentError`."""
         steps: List[Step] = []
         arrival = self._arrival(place, platform)
         while arrival.before is not None and arrival.step is not None and len(steps) < MOST_STEPS:
+            self._budget.spend(STEP)
             steps.append(arrival.step)
             place = arrival.before
             arrival = self._arrival(place, platform)
