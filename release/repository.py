@@ -76,6 +76,13 @@ def project(name: str) -> List[str]:
     return re.findall(r'"(.*?)"', line)
 
 
+def project_list(name: str) -> List[str]:
+    """Returns what stands in quotes in the list of this name in the project of the package, which
+    is one of several lines."""
+    found, = re.findall(rf"^{name} = \[\n(.*?)^\]$", read_text(PROJECT), re.M | re.S)
+    return re.findall(r'"(.*?)"', found)
+
+
 def rust_field(manifest: str, name: str) -> str:
     """Returns what a line of the manifest of a package in `bindings/rust` has in quotes."""
     text = read_text(f"bindings/rust/{manifest}")

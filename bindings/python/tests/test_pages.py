@@ -43,15 +43,34 @@ class Manifests(Shell):
         self.write("watcher/src/lib.rs")
         return os.path.join(self.folder, "watcher")
 
+    def write_app(self):
+        """Writes the package on the page that has a lock file, with all packages that it uses.
+        Returns its folder."""
+        packages = {
+            "app": ("dependencies.net", "build-dependencies.codegen"),
+            "net": ("target.'cfg(windows)'.dependencies.winsock",),
+            "codegen": ("target.'cfg(windows)'.dependencies.console",), "winsock": (),
+            "console": (),
+        }
+        for name, rows in packages.items():
+            lines = [f'[{row}]\npath = "../{row.rpartition(".")[2]}"' for row in rows]
+            sources = ["src/lib.rs", "build.rs"] if name == "app" else ["src/lib.rs"]
+            self.write_package(name, *lines, sources=sources)
+        path = os.path.join(self.folder, "app")
+        subprocess.run(["cargo", "generate-lockfile", "--offline", "-q"], cwd=path, check=True)
+        return path
+
     @needs(
         "cargo", "rustc", "jq",
         untested="the commands and tables of cfgx-deps on the page MANIFESTS",
     )
     def test_commands(self):
-        folder, host = self.write_watcher(), cfgx.manifest.report(self.write_watcher()).platforms[0]
+        watcher, app = self.write_watcher(), self.write_app()
+        host = cfgx.manifest.report(watcher).platforms[0]
         consoles = [text for language, text in blocks(MANIFESTS_PAGE) if language == "console"]
-        self.assertEqual(len(consoles), 4)
+        self.assertEqual(len(consoles), 6)
         for text in consoles:
+            folder = app if "--resolved" in text else watcher
             lines = text.splitlines(keepends=True)
             command = "".join(line[2:] for line in lines if line[:2] in ("$ ", "> "))
             wanted = "".join(line for line in lines if line[:2] not in ("$ ", "> "))
@@ -100,18 +119,6 @@ class Manifests(Shell):
         told = {word for cell in table for word in re.findall(r"(?<!\w)--?[a-z][\w-]*", cell)}
         known = {word for one in _command.parser()._actions for word in one.option_strings}
         self.assertEqual(told | {"--help", "-h", "--package", "--version"}, known)
-
-    def test_names_in_json(self):
-        with open(MANIFESTS_PAGE, encoding="utf-8") as file:
-            text = file.read()
-        tables = text[text.index("| member |"):text.index("With `--summary`, a row has")]
-        told = {word for cell in re.findall(r"^\| (`.*?) \|", tables, re.M)
-                for word in re.findall(r"`(\w+)`", cell)}
-        self.assertEqual(told, {
-            "version", "manifest", "platforms", "dependencies", "notes", "package", "name",
-            "renamed_from", "kind", "optional", "condition", "values", "unknown", "never", "fault",
-            "tried",
-        })
 
     def test_limits(self):
         with open(MANIFESTS_PAGE, encoding="utf-8") as file:

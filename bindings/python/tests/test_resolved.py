@@ -267,8 +267,8 @@ class Started(Locked):
         self.write("store/a/src/lib.rs")
         self.write("store/a/.cargo-checksum.json", '{"files": {}}')
         path = self.write_package("b", '[dependencies]\na = "1"', "[workspace]")
-        config = (f'[source.crates-io]\nreplace-with = "store"\n[source.store]\n'
-                  f'directory = "{self.folder}/store"\n')
+        config = ('[source.crates-io]\nreplace-with = "store"\n[source.store]\n'
+                  'directory = "../store"\n')
         file = self.write("b/.cargo/config.toml", config)
         home = {"CARGO_HOME": os.path.join(self.folder, "home")}
         words = ['source.crates-io.replace-with="store"',

@@ -3,9 +3,9 @@ import collections
 import json
 from typing import Dict, FrozenSet, Iterator, List, Mapping, Optional, Sequence, Tuple
 
+from .._terminal import shown, wrapped
 from . import _table
 from ._cargo import Package
-from ._errors import shown
 from ._formats import TRUTH, VERSION, YES_OR_NO, list_of, members, platform_list, summary_members
 from ._formats import tabbed
 from ._once import Once
@@ -46,9 +46,13 @@ class Names:
         return " ".join([self._name(leg.package), *marks])
 
 
-def table_of(report: Resolved, width: Optional[int], is_summary: bool) -> Iterator[str]:
+def table_of(
+    report: Resolved, width: Optional[int], is_summary: bool, left_out: int = 0,
+    is_coloured: bool = False,
+) -> Iterator[str]:
     """Yields the lines of a table with a column for each platform, or with the number of platforms
-    that have each value. Without a width, no line is cut."""
+    that have each value. Without a width, no line is cut. `left_out` is how many packages the
+    report leaves out."""
     names = Names(report)
     fronts = [
         ["package", *(shown(row.package.name) for row in report.rows)],
@@ -56,9 +60,11 @@ def table_of(report: Resolved, width: Optional[int], is_summary: bool) -> Iterat
     ]
     heads, cells = summary_cells(report) if is_summary else value_cells(report)
     ways = [shown(names.way(row.routes[0])) if row.routes else "" for row in report.rows]
-    yield from _table.lines_of(Grid(fronts, heads, cells, ["shortest way", *ways]), width)
-    yield from explained(report)
-    yield counted(report)
+    grid = Grid(fronts, heads, cells, ["shortest way", *ways])
+    yield from _table.lines_of(grid, width, is_coloured)
+    for line in explained(report):
+        yield from wrapped(line, _table.width_below(width))
+    yield counted(report, left_out)
 
 
 def value_cells(report: Resolved) -> Tuple[List[str], List[Sequence[str]]]:
@@ -110,13 +116,12 @@ def flags_of(row: Used) -> Tuple[str, ...]:
     return tuple(sorted({flag for route in unknown for leg in route.legs for flag in leg.flags}))
 
 
-def counted(report: Resolved) -> str:
+def counted(report: Resolved, left_out: int = 0) -> str:
     """Returns a line with the host and the number of packages by their values."""
     groups = collections.Counter(_table.group_of(row.values) for row in report.rows)
     order = ("yes", "no", "yes or no", "unknown")
     counts = [f"{groups[name]} {name}" for name in order if groups[name] > 0]
-    count = len(report.rows)
-    packages = "1 package" if count == 1 else f"{count} packages"
+    packages = _table.number_of(len(report.rows), left_out, "package")
     return f"host {shown(report.host)}; {packages}: {', '.join(counts) or 'none'}"
 
 
