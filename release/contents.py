@@ -10,18 +10,19 @@ from repository import (
 )
 from stamp import PLATFORMS as LIBRARIES
 from targets import (
-    ARM_LINUX, ARM_MAC, ELF, FAMILIES, PLATFORMS, WINDOWS_GNU, X86_LINUX, X86_MAC, Platform,
+    ARM_LINUX, ARM_MAC, ELF, FAMILIES, PLATFORMS, WASM_32, WINDOWS_GNU, X86_LINUX, X86_MAC, Platform,
 )
 
 Files = Dict[str, File]
 
 LICENSES = ("LICENSE-APACHE", "LICENSE-MIT", "LICENSES/LicenseRef-cfgx-kit.txt", "NOTICE")
 
-# The first pages of the archives for C, Rust and Python.
+# The first pages of the archives for C, Rust, Python and JavaScript.
 README = "README.md"
 RUST_README = "bindings/rust/README.md"
 PYTHON_README = "bindings/python/README.md"
-# Where the archive for Rust has the page whose place its own README takes.
+JAVASCRIPT_README = "bindings/js/README.md"
+# Where the archives for Rust and JavaScript have the page whose place its own README takes.
 MOVED = "docs/CFGX.md"
 # Where pip puts the pages of a wheel, below the folder of the environment.
 DOCUMENTS = "share/doc/cfgx"
@@ -34,6 +35,9 @@ MADE = {
     "share/fish/vendor_completions.d/cfgx-deps.fish": ("completion", "fish"),
     "share/zsh/site-functions/_cfgx-deps": ("completion", "zsh"),
 }
+
+# What makes the page.
+PAGE_MAKER = ("-B", "bindings/js/page/make")
 
 # The file for pkg-config leads from its own folder to the others.
 PC = "lib/pkgconfig/cfgx.pc"
@@ -193,6 +197,22 @@ def rust_files() -> Files:
     }
     told = pages(RUST_README, {RUST_README: README, README: MOVED})
     return {**code, **libraries, **licenses(), **licenses("cfg-expr/"), **told}
+
+
+def javascript_files() -> Files:
+    """Returns the files of the package for JavaScript, with the module inside, as `npm` unpacks
+    them."""
+    top = "bindings/js/"
+    code = {path[len(top):]: File(read(path)) for path in tracked(top + "package.json", top + "src")}
+    module = {f"src/{WASM_32.shared}": library(WASM_32, WASM_32.shared)._replace(is_program=False)}
+    told = pages(JAVASCRIPT_README, {JAVASCRIPT_README: README, README: MOVED})
+    files = {**code, **module, **licenses(), **told}
+    return {f"package/{path}": file for path, file in files.items()}
+
+
+def page() -> bytes:
+    """Returns the page that shows where a condition is true, with the module inside."""
+    return output_of(sys.executable, *PAGE_MAKER).encode()
 
 
 def information(wheel: Wheel) -> Files:

@@ -1,5 +1,6 @@
 """What is asked of the repository, of its commit, and of the kit that built it."""
 import functools
+import json
 import os
 import re
 import subprocess
@@ -88,6 +89,12 @@ def rust_field(manifest: str, name: str) -> str:
     text = read_text(f"bindings/rust/{manifest}")
     found, = re.findall(rf'^{name} = "(.*)"$', text, re.M)
     return found
+
+
+def node_version() -> str:
+    """Returns the least version of Node that the package for JavaScript needs."""
+    package = json.loads(read_text("bindings/js/package.json"))
+    return str(package["engines"]["node"]).lstrip(">=")
 
 
 def commit() -> Commit:

@@ -1,7 +1,7 @@
 /** Two conditions beside each other: where they differ, and whether one implies the other. */
 import { TRUE } from "../src/answers.js";
 import { joined } from "./conditions.js";
-import { byId, code, element, setText } from "./dom.js";
+import { byId, code, element } from "./dom.js";
 import { countsOf } from "./picture.js";
 import { Budget } from "./search.js";
 import { TRIPLES, Values } from "./values.js";
@@ -44,23 +44,23 @@ export function compared(one, other, decided) {
 function implication(one, other, { target, answers, isWhole }) {
   const start = [element("b", {}, `${one} implies ${other}`), ": "];
   if (target === undefined) {
-    return element("li", {}, ...start, isWhole ?
-      "on every target, whatever the switches say." : "not tried out. There are too many ways.");
+    return element("li", {}, ...start, isWhole ? "on every target, whatever the switches say." :
+      "not tried out, since there are too many ways to set the switches.");
   }
+  const triple = TRIPLES[target];
+  const place = element("button", { type: "button", class: "link", "data-triple": triple },
+                        code(triple));
   const filling = answersInWords(answers);
-  return element("li", {}, ...start, "not. On ", code(TRIPLES[target]),
-                 ...(filling ? [" with ", code(filling)] : []),
-                 ` ${one} is yes and ${other} is no.`);
+  return element("li", {}, ...start, "not on every target. On ", place,
+                 ...(filling ? [", with ", code(filling)] : []),
+                 `, ${one} is yes and ${other} is no.`);
 }
 
 /** Returns the sentence that says on how many targets two conditions differ. */
 function differences(values) {
   const [same, differ, may] = countsOf(values.numbers);
-  const parts = [`They differ on ${counted(differ, "target")}`];
-  if (may > 0) {
-    parts.push(`may differ on ${may}, as the unknown switches say`);
-  }
-  return `${parts.join(", ")}, and have one value on ${same}.`;
+  const open = may > 0 ? ` On ${counted(may, "target")} the unknown switches decide.` : "";
+  return `Their values differ on ${counted(differ, "target")}, and are the same on ${same}.${open}`;
 }
 
 /** Returns the number of the condition that is chosen, which is there. */
@@ -83,7 +83,6 @@ export function offer(conditions, wanted) {
     }
     choice.value = String(numbers[at]);
   });
-  byId("compare").dataset.count = conditions.length < 2 ? "few" : "";
   byId("compare-few").hidden = conditions.length > 1;
   byId("compare-many").hidden = conditions.length < 2;
   return numbers;
@@ -100,8 +99,14 @@ export function showComparison([first, second], { forth, back, values }) {
   result.replaceChildren(...items, element("li", {}, differences(values)));
 }
 
-/** Calls back after each choice. */
-export function start(change) {
+/** Calls back after each choice, and with the triple of a target that is chosen. */
+export function start(change, choose) {
+  result.addEventListener("click", ({ target }) => {
+    const link = target.closest("[data-triple]");
+    if (link !== null) {
+      choose(link.dataset.triple);
+    }
+  });
   choices.forEach((choice) => choice.addEventListener("change", change));
   byId("differences").addEventListener("click", () => {
     const button = byId("differences");
@@ -120,5 +125,3 @@ export function isShown() {
 export function setShown(isPressed) {
   byId("differences").setAttribute("aria-pressed", String(isPressed));
 }
-
-setText(result, "");

@@ -59,9 +59,12 @@ export function joined(form, one, other) {
   return new Condition(-1, 0, form(one.inner, other.inner));
 }
 
-/** Reads texts, and keeps what it read of those that stay. */
+/** Reads texts, and keeps what it read of those that stay. While a line is faulty, its last condition
+ * stays beside the fault, as long as there are as many lines. */
 export class Reader {
   #read = new Map();
+  #last = new Map();
+  #lineCount = 0;
 
   /** Returns the conditions in a text that is not too long, and whether all were read. */
   read(text) {
@@ -76,7 +79,21 @@ export class Reader {
       return found;
     });
     this.#read = kept;
+    this.#keepLast(lines.length, conditions);
     return { lines, conditions, isWhole: filled.length <= MOST_CONDITIONS };
+  }
+
+  /** Keeps the last condition of each line. */
+  #keepLast(lineCount, conditions) {
+    const before = lineCount === this.#lineCount ? this.#last : new Map();
+    this.#lineCount = lineCount;
+    this.#last = new Map();
+    for (const one of conditions) {
+      one.shown = one.expression ? one : before.get(one.line);
+      if (one.shown !== undefined) {
+        this.#last.set(one.line, one.shown);
+      }
+    }
   }
 }
 

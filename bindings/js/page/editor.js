@@ -1,12 +1,13 @@
 /** The text that is typed, painted below it. */
 import { piecesOf } from "./conditions.js";
 import { byId, element, setAttribute, setText } from "./dom.js";
+import { countsOf } from "./picture.js";
 import { explained } from "./words.js";
 
 const field = byId("text");
 const paint = byId("paint");
-const fault = byId("fault");
-const [faultPlace, faultText] = fault.children;
+const told = byId("fault");
+const [toldPlace, toldText] = told.children;
 
 /** Returns the element of a painted line. */
 function painted(line, condition) {
@@ -40,13 +41,29 @@ export function paintLines(lines, conditions, selected) {
   }
 }
 
-/** Says what is wrong with a text, or nothing for a condition. */
-export function explainFault(condition, count) {
-  const { fault: found, line, offset } = condition ?? {};
-  setAttribute(field, "aria-invalid", found ? "true" : undefined);
-  const column = found && offset + found.start + 1;
-  setText(faultPlace, found ? `${count > 1 ? `Line ${line + 1}, column` : "Column"} ${column}` : "");
-  setText(faultText, found ? explained(found) : "");
+/** Returns where a fault is, and what is wrong. */
+function toldOfFault({ fault: { start }, fault: found, line, offset }, isAlone) {
+  const column = offset + start + 1;
+  return [isAlone ? `Column ${column}:` : `Line ${line + 1}, column ${column}:`, explained(found)];
+}
+
+/** Returns on how many targets a condition has each value. */
+function toldOfValues({ line }, numbers, isAlone) {
+  const [no, yes, unknown] = countsOf(numbers);
+  const open = unknown > 0 ? `, and depends on the switches on ${unknown}` : "";
+  return [isAlone ? "" : `Line ${line + 1}:`,
+          `true on ${yes} of ${numbers.length} targets, false on ${no}${open}.`];
+}
+
+/** Says what is wrong with the faulty condition, or else what values the selected one has. */
+export function explain(faulty, selected, numbers, lineCount) {
+  setAttribute(field, "aria-invalid", faulty ? "true" : undefined);
+  setAttribute(told, "data-faulty", faulty ? "" : undefined);
+  const isAlone = lineCount === 1;
+  const [place, text] = faulty ? toldOfFault(faulty, isAlone) :
+    selected ? toldOfValues(selected, numbers, isAlone) : ["", "Type a condition."];
+  setText(toldPlace, place);
+  setText(toldText, place ? text : text[0].toUpperCase() + text.slice(1));
 }
 
 /** Puts the caret at the start of a line. */

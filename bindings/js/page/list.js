@@ -11,10 +11,9 @@ const ORDER = [1, 2, 0];
 function rowOf() {
   const bar = element("span", { class: "bar", "aria-hidden": "true" },
                       ...ORDER.map((value) => element("i", { "data-value": String(value) })));
-  const made = element("button", { type: "button", class: "row" },
-                       element("span", { class: "number" }), code(""), bar,
-                       element("span", { class: "counts" }));
-  return element("li", {}, made);
+  return element("li", {}, element("button", { type: "button" },
+                                   element("span", { class: "number" }), code(""), bar,
+                                   element("span", { class: "counts" })));
 }
 
 /** Shows a condition and the numbers of its values, or that it is faulty. */
@@ -26,11 +25,11 @@ function fill(item, condition, numbers, isSelected) {
   setAttribute(button, "aria-current", isSelected ? "true" : undefined);
   setAttribute(button, "data-faulty", condition.fault ? "" : undefined);
   button.dataset.line = String(condition.line);
-  const counts = numbers ? countsOf(numbers) : [0, 0, 0];
+  const counts = numbers && !condition.fault ? countsOf(numbers) : [0, 0, 0];
   [...bar.children].forEach((part) => {
     part.style.flexGrow = String(counts[part.dataset.value]);
   });
-  setText(told, numbers ? ORDER.map((value) => `${counts[value]} ${NAMES[value]}`).join(" \u00b7 ") :
+  setText(told, !condition.fault ? ORDER.map((value) => `${counts[value]} ${NAMES[value]}`).join(" \u00b7 ") :
     "is faulty");
 }
 

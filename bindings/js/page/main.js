@@ -17,39 +17,34 @@ import { DIFFERENCES, NAMES, counted } from "./words.js";
 
 const field = byId("text");
 const reader = new Reader();
-// What is shown: the conditions of the text, those of them without a fault, their values, the one
-// whose values the picture has, and the chosen target.
-const shown = { lines: [], all: [], conditions: [], values: [], selected: undefined,
-                target: undefined, compare: undefined };
+// What is shown: the lines of the text, their conditions and faults, the conditions that are shown for
+// them, the values of these, what stands at the caret, the condition whose values the picture has, the
+// chosen target, and the numbers of the two that are compared.
+const shown = { lines: [], all: [], conditions: [], values: [], atCaret: undefined,
+                selected: undefined, target: undefined, compare: undefined };
 
 /** Returns the numbers of the values of a condition. */
 function numbersOf(condition) {
   return shown.values[shown.conditions.indexOf(condition)]?.numbers;
 }
 
-/** Reads the text. While the condition at the caret is faulty, the last one that was shown stays. */
+/** Reads the text. While a line is faulty, its last condition is shown. */
 function readText() {
   const text = field.value.slice(0, MOST_UNITS);
   const { lines, conditions, isWhole } = reader.read(text);
-  Object.assign(shown, { lines, all: conditions });
-  shown.conditions = conditions.filter((one) => one.expression !== undefined);
+  shown.lines = lines;
+  shown.all = conditions;
+  shown.conditions = conditions.map((one) => one.shown).filter((one) => one !== undefined);
   setText(byId("limit"), isWhole && text === field.value ? "" :
     `Only the first ${counted(MOST_CONDITIONS, "condition")} and ${MOST_UNITS} characters are read.`);
 }
 
-/** Finds the condition on the line of the caret, and shows its values. */
+/** Finds the condition on the line of the caret, or else the nearest one. */
 function selectAtCaret() {
   const line = editor.caretLine();
-  const at = shown.all.find((one) => one.line === line) ?? nearest(line);
-  const isSame = shown.conditions.some((one) => one.line === shown.selected?.line);
-  const kept = isSame ? shown.conditions.find((one) => one.line === shown.selected.line) : undefined;
-  shown.atCaret = at;
-  shown.selected = at?.expression ? at : kept ?? shown.conditions[0];
-}
-
-/** Returns the last condition above a line, or else the first one below it. */
-function nearest(line) {
-  return shown.all.filter((one) => one.line < line).at(-1) ?? shown.all[0];
+  const above = shown.all.filter((one) => one.line <= line).at(-1);
+  shown.atCaret = above ?? shown.all[0];
+  shown.selected = shown.atCaret?.shown ?? shown.conditions[0];
 }
 
 /** Shows what the picture has: the values of the selected condition, or where two differ. */
@@ -77,9 +72,9 @@ function draw() {
   switches.show(openPredicates(shown.conditions));
   shown.values = valuesOf(shown.conditions, switches.decided);
   editor.paintLines(shown.lines, shown.all, shown.atCaret);
-  editor.explainFault(shown.atCaret?.fault ? shown.atCaret : shown.all.find((one) => one.fault),
-                      shown.lines.length);
-  list.show(shown.all, numbersOf, shown.selected);
+  editor.explain(shown.atCaret?.fault ? shown.atCaret : shown.all.find((one) => one.fault),
+                 shown.selected, numbersOf(shown.selected), shown.lines.length);
+  list.show(shown.all, numbersOf, shown.atCaret);
   drawPicture(drawComparison());
   drawTarget();
   address.writeSoon(state);
@@ -101,6 +96,8 @@ function drawComparison() {
 
 /** Shows the chosen target. */
 function drawTarget() {
+  byId("close").hidden = shown.target === undefined;
+  setAttribute(byId("target"), "data-chosen", shown.target === undefined ? undefined : "");
   if (shown.target === undefined) {
     why.showNone();
   } else {
@@ -183,7 +180,8 @@ function listen() {
   comparing.start(() => {
     shown.compare = undefined;
     draw();
-  });
+  }, (triple) => chooseTarget(TRIPLES.indexOf(triple)));
+  byId("close").addEventListener("click", () => chooseTarget(undefined));
   byId("examples").addEventListener("click", ({ target }) => {
     if (target.dataset.text !== undefined) {
       load({ ...address.stateIn(`#${new URLSearchParams({ c: target.dataset.text })}`),

@@ -30,7 +30,7 @@ function cellOf(target) {
 
 /** Returns the element of the targets of a processor. */
 function processorOf([name, numbers]) {
-  const cells = element("div", { class: "row" }, ...numbers.map((target) => CELLS[target]));
+  const cells = element("div", { class: "cells" }, ...numbers.map((target) => CELLS[target]));
   return element("div", { class: "processor" }, element("h4", {}, name), cells);
 }
 
@@ -45,7 +45,8 @@ function systemOf([name, numbers]) {
                        element("p", { class: "counts", "aria-hidden": "true" }, ...counts));
   const body = element("div", { class: "processors" }, ...grouped(numbers, "target_arch")
     .map(processorOf));
-  const made = element("section", { class: "system", role: "group" }, head, body);
+  const made = element("section", { class: "system", role: "group",
+                                    "data-small": numbers.length < 3 ? "" : undefined }, head, body);
   return { made, name: title, numbers, counts };
 }
 

@@ -22,14 +22,16 @@ export class Budget {
   }
 }
 
-/** Returns the places of each predicate that is unknown, by its text. */
-function openPlaces(condition, numbers) {
+/** Returns the places of each predicate that is unknown among the predicates, by its text. The first
+ * one in the condition comes first. */
+function openPlaces({ predicates, texts }, numbers) {
   const places = new Map();
-  condition.texts.forEach((text, at) => {
-    if (numbers[at] === UNKNOWN && !places.get(text)?.push(at)) {
-      places.set(text, [at]);
+  const open = texts.map((_, at) => at).filter((at) => numbers[at] === UNKNOWN);
+  for (const at of open.sort((one, other) => predicates[one].start - predicates[other].start)) {
+    if (!places.get(texts[at])?.push(at)) {
+      places.set(texts[at], [at]);
     }
-  });
+  }
   return places;
 }
 

@@ -14,6 +14,9 @@ const TERMS = new Map([
   ['= "<panic_strategy>"', 'a value, as in panic = "abort"'],
   ['= "<target_cfg_value>"', 'a value, as in target_os = "linux"'],
   ["<feature>", 'the name of a feature, such as "sse2"'],
+  [",", "a comma"],
+  ["(", "an opening parenthesis"],
+  [")", "a closing parenthesis"],
 ]);
 
 // What is said of a reason but `unexpected`.

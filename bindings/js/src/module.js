@@ -10,13 +10,15 @@ const OUT_OF_MEMORY = 3;
 const TOO_LARGE = 8;
 const FAULTY_FACT = 9;
 
-// The sizes of structs in bytes, and the places of their members.
-const FAULT = { size: 48, item: 0, offset: 8, start: 16, end: 24, members: 32, reason: 40,
-                terms: 44 };
-const PREDICATE = { size: 56, kind: 0, number: 4, start: 8, end: 16, keyStart: 24, keyEnd: 32,
-                    valueStart: 40, valueEnd: 48 };
-const STEP = { size: 16, kind: 0, number: 8 };
-const TOKEN = { size: 24, kind: 0, start: 8, end: 16 };
+/** The sizes of the structs of cfgx.h in bytes, and the places of their members. */
+export const LAYOUTS = {
+  fault: { size: 48, item: 0, offset: 8, start: 16, end: 24, members: 32, reason: 40, terms: 44 },
+  predicate: { size: 56, kind: 0, number: 4, start: 8, end: 16, keyStart: 24, keyEnd: 32,
+               valueStart: 40, valueEnd: 48 },
+  step: { size: 16, kind: 0, number: 8 },
+  token: { size: 24, kind: 0, start: 8, end: 16 },
+};
+const { fault: FAULT, predicate: PREDICATE, step: STEP, token: TOKEN } = LAYOUTS;
 const SIZE = 8;
 
 // The items for which the first call has room, and the bytes of a message beside those of its text.
@@ -196,18 +198,10 @@ export function explain(text) {
   });
 }
 
-/** Returns the description of a predicate, or of a token. */
-function described(read) {
-  return {
-    kind: read(PREDICATE.kind),
-    number: read(PREDICATE.number),
-    start: read(PREDICATE.start),
-    end: read(PREDICATE.end),
-    keyStart: read(PREDICATE.keyStart),
-    keyEnd: read(PREDICATE.keyEnd),
-    valueStart: read(PREDICATE.valueStart),
-    valueEnd: read(PREDICATE.valueEnd),
-  };
+/** Returns the function that reads the members of a struct, of which all are numbers. */
+function reader({ size: _, ...members }) {
+  const places = Object.entries(members);
+  return (read) => Object.fromEntries(places.map(([name, at]) => [name, read(at)]));
 }
 
 /** Returns the bytes of the steps and the descriptions of the predicates of a condition, or the
@@ -234,7 +228,7 @@ export function compile(text) {
     }
     return {
       steps: room.bytes(filled.steps, stepCount * STEP.size).slice(),
-      predicates: room.structs(filled.predicates, PREDICATE.size, count, described),
+      predicates: room.structs(filled.predicates, PREDICATE.size, count, reader(PREDICATE)),
     };
   });
 }
@@ -242,10 +236,10 @@ export function compile(text) {
 /** Returns the kinds and the numbers of steps. */
 export function stepsIn(bytes) {
   const view = new DataView(bytes.buffer, bytes.byteOffset, bytes.length);
-  return Array.from({ length: bytes.length / STEP.size }, (_, at) => ({
-    kind: view.getUint32(at * STEP.size + STEP.kind, true),
-    number: view.getUint32(at * STEP.size + STEP.number, true),
-  }));
+  const read = reader(STEP);
+  return Array.from({ length: bytes.length / STEP.size }, (_, number) => (
+    read((at) => view.getUint32(number * STEP.size + at, true))
+  ));
 }
 
 /** Returns the bytes of steps with these kinds and numbers. */
@@ -331,11 +325,8 @@ export function tokens(text) {
     if (count > ROOM) {
       filled = fill(count);
     }
-    const read = (member) => (
-      { kind: member(TOKEN.kind), start: member(TOKEN.start), end: member(TOKEN.end) }
-    );
     return {
-      tokens: room.structs(filled.found, TOKEN.size, count, read),
+      tokens: room.structs(filled.found, TOKEN.size, count, reader(TOKEN)),
       fault: filled.status === FAULTY ? faultAt(room, fault) : undefined,
     };
   });
