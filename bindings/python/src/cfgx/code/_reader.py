@@ -4,6 +4,7 @@ A *guard* is a condition that has to hold for a piece of the code to be compiled
 inside of one another, as the pieces do.
 """
 import heapq
+import re
 from bisect import bisect_right
 from typing import Dict, Iterable, Iterator, List, NamedTuple, Optional, Sequence, Set, Tuple
 
@@ -18,6 +19,13 @@ from ._things import SPACES, Cursor, Space, Thing, pass_arm, thing_at
 
 # How many `cfg_attr` inside of one another tell what an attribute stands on when it is there.
 MOST_NESTED = 16
+# How many characters in front of a module have its attributes, and those of a group a name.
+MOST_FRONT = 2000
+# The name of a module, in front of its group.
+INLINE = re.compile(r"\bmod\s+(?:r#)?(\w+)\s*\Z")
+# What ends the item before, and the paths that attributes have.
+ENDING = re.compile(r"[;{}]")
+PATH, OWN_PATH = re.compile(r'\bpath\s*=\s*"([^"\\]*)"'), re.compile(r"#\s*\[\s*path\b")
 
 
 ATTRIBUTES = {"cfg": Form.CFG, "cfg_attr": Form.CFG_ATTR}
@@ -92,6 +100,22 @@ class Twins(NamedTuple):
     """The innermost guard around the scope."""
 
 
+class Declared(NamedTuple):
+    """A module that has a file of its own."""
+
+    name: str
+    start: int
+    """Where it begins."""
+    folders: Tuple[str, ...]
+    """The names of the modules around it in the same file."""
+    paths: Tuple[str, ...]
+    """The paths that attributes give it."""
+    has_usual_path: bool
+    """Whether its file may also be the one that its name says."""
+    guard: Optional[Guard]
+    """The innermost guard of the module."""
+
+
 class Reading:
     """What was found in a text."""
 
@@ -103,6 +127,7 @@ class Reading:
         self.conditions: List[Found] = []
         self.chains: List[Chain] = []
         self.twins: List[Twins] = []
+        self.modules: List[Declared] = []
         # Guards in the order of their starts. The guards at a place are the last one that begins
         # there or before and does not end before, and those around it.
         self._starts: List[int] = []
@@ -138,6 +163,7 @@ class Reading:
             self._begin(start, guard)
         for scope, groups in self._scopes.items():
             self.twins += self._twins_in(scope, groups)
+        self.modules = [self._declared(*one) for one in self.skim.modules]
 
     def _end_of(self, group: int) -> int:
         """Returns where a group ends, or the text."""
@@ -360,6 +386,16 @@ class Reading:
             if place <= start:
                 behind = following(self.text, start)
                 place = end if behind is None else behind.end
+
+    def _declared(self, place: int, around: Sequence[int]) -> Declared:
+        """Returns the module that begins at a place, in groups that begin at others."""
+        name = following(self.text, place + len("mod"))
+        fronts = (INLINE.search(self.text[max(0, one - MOST_FRONT):one]) for one in around)
+        front = ENDING.split(self.text[max(0, place - MOST_FRONT):place])[-1]
+        return Declared(
+            plain(self.text, name), place, tuple(one[1] for one in fronts if one is not None),
+            tuple(PATH.findall(front)), OWN_PATH.search(front) is None, self._guard_at(place),
+        )
 
     def _guard_of(self, thing: Thing) -> Optional[Guard]:
         """Returns the innermost guard of an item, with those inside of its body."""

@@ -9,7 +9,7 @@ from ._findings import name_of
 from ._model import Guard, Place
 from ._names import CHOICES, NONE, TWO
 from ._report import File, Report, counted, systems_of
-from ._values import Answer, GroupRow, Row, Verdict
+from ._values import Answer, GroupRow, Row, Verdict, all_of
 
 # How many characters of a line are shown before a mark, and at most.
 BEFORE, MOST = 60, 160
@@ -102,11 +102,15 @@ class Printer:
             yield one.problem.reason.value
         if row.answer is not None and row.verdict in (Verdict.PLATFORMS, Verdict.DEPENDS):
             yield from self._values(row.answer)
-        if row.within is not None:
+        if file.is_never:
+            yield f"its file is compiled on no target: {all_of(file.context)}"
+        elif row.within is not None:
             line = file.code.conditions[row.within].place.line
             yield f"it stands in what is never true, from line {line} on"
         elif one.guard is not None:
             yield f"inside of {guards_of(file, one.guard)}"
+        if file.context and not file.is_never:
+            yield f"its file is compiled where {all_of(file.context)}"
         if row.is_partial:
             yield "a condition around it was not read, so it may be true on fewer targets"
         if row.verdict is Verdict.NOT_TRIED:
