@@ -30,7 +30,7 @@ use cfgx_parser::parser::Parser;
 use cfgx_syntax::lexer::Lexer;
 use cfgx_syntax::logic::Kleene64;
 pub use cfgx_syntax::logic::Logic;
-pub use cfgx_syntax::{lexer, logic};
+pub use cfgx_syntax::{lexer, logic, stripping};
 pub use condition::{Condition, ConditionReader};
 pub use located::LocatedPredicates;
 pub use matcher::TargetMatcher;

@@ -27,6 +27,7 @@ use cfgx_parser::parser::Parser;
 use cfgx_syntax::lexer::Lexer;
 use cfgx_syntax::logic::Kleene64;
 use cfgx_syntax::logic::laws::are_disjoint;
+use cfgx_syntax::stripping::{Stripped, strip};
 use smallvec::SmallVec;
 use std::alloc::{AllocError, Global};
 use std::marker::Model;
@@ -343,7 +344,21 @@ impl<'a, A: SmallAllocator> ConditionReader<'a, A> {
         ensures short { self.old ≡ false → HasOneTree (strip text.now)
             → length (strip text.now) ≤ 4 → IsOk result }
     {
-        let lexer = Lexer::new(self.alloc, text);
+        self.read_stripped(strip(text))
+    }
+
+    /// Reads a text that is stripped already, as `read` does.
+    ///
+    /// # Errors
+    ///
+    /// Those of `read`.
+    #[inline(always)]
+    pub fn read_stripped(&mut self, stripped: Stripped<'a>) -> Result<Condition<'_>, Failure<A>>
+        ensures answers { Answers stripped.entry.text.now result }
+        ensures short { self.old ≡ false → HasOneTree stripped.entry.text.now
+            → length stripped.entry.text.now ≤ 4 → IsOk result }
+    {
+        let lexer = Lexer::of_stripped(self.alloc, stripped);
         let original = lexer.original();
         let has_read = mem::replace(&mut self.has_read, true);
         begin(&mut self.parser, has_read, original.len())?;
