@@ -206,7 +206,8 @@ impl<A: Allocator> Predicate<'_, A> {
             Predicate::KeyValue { key, val } => (Asked::KeyValue, *key, *val),
         };
         AskedTexts {
-            asked,
+            kind: asked.kind(),
+            number: asked.number(),
             key: key.as_bytes(),
             value: value.as_bytes(),
         }
