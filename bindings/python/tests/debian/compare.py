@@ -49,8 +49,8 @@ def main(name, path, *settings):
     """Prints what differs, and the counts."""
     same = more = unread = lost = count = 0
     for kinds in KINDS:
-        options = {"is_workspace": True, "kinds": kinds, "settings": settings,
-                   "has_other_flags": False}
+        options = {"workspace": True, "kinds": kinds, "config": settings,
+                   "no_other_cfg": True}
         report = manifest.resolved(path, TARGETS, **options)
         with unittest.mock.patch.object(_cargo, "package_of", with_scripts):
             scripted = manifest.resolved(path, TARGETS, **options)
