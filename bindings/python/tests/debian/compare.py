@@ -1,8 +1,9 @@
 """compare.py NAME MANIFEST SETTING..: compares the packages that builds of a workspace have with
-those that `cargo tree` shows, for five targets and three lists of kinds, and prints the counts. Ends
-with status 1 if `cargo tree` shows a package that the report lacks, unless only a build-dependency
-of a package without a build script leads to it: `cargo tree` shows such a one, and no build has it.
-"""
+those that `cargo tree` shows, for five targets and three lists of kinds, and prints the counts.
+
+It ends with status 1 if `cargo tree` shows a package that the report lacks, unless only a
+build-dependency of a package without a build script leads to it: `cargo tree` shows such a one, and
+no build has it."""
 import dataclasses
 import os
 import re

@@ -279,12 +279,12 @@ class Found:
 
     def _leg(self, step: Step, platform: int) -> Leg:
         """Returns a step of a way on a platform."""
-        value, flags = Value.YES, ()
-        if not self._conditions.holds(step) >> platform & 1:
-            value, flags = Value.UNKNOWN, self._conditions.flags(step, platform)
+        is_true = self._conditions.holds(step) >> platform & 1
         return Leg(
             self._build.graph.packages[step.place.package], step.edge.kind, step.edge.condition,
-            value, flags, step.place.is_host or not self._has_target,
+            Value.YES if is_true else Value.UNKNOWN,
+            () if is_true else self._conditions.flags(step, platform),
+            step.place.is_host or not self._has_target,
         )
 
 
