@@ -350,7 +350,7 @@ class Fake(Made):
             (["--fail-on", "never"], 1, "cfgx-deps: never true: r 1.0.0\n"),
             (["--fail-on", "unknown", "--no-other-cfg"], 0, ""),
             (["-p", "z"], 2, "cfgx-deps: the workspace has no package z\n"),
-            (["-p", "q"], 2, "cfgx-deps: the workspace has no package q; is it p?\n"),
+            (["-p", "q"], 2, "cfgx-deps: the workspace has no package q\n"),
         ]
         for words, status, message in rows:
             with self.subTest(words=words):
