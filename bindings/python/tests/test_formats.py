@@ -23,11 +23,20 @@ SHOWN = (
 )
 
 
+# What is printed of a dependency of which a row here says nothing else, in JSON and in TSV.
+USUAL = {"package_version": "1.2.3", "package_manifest": "/p/Cargo.toml", "requirement": "*",
+         "source": "path", "location": "/q", "default_features": True, "features": []}
+DETAILED = ("package_version\tpackage_manifest\trequirement\tsource\tlocation\tdefault_features\t"
+            "features")
+DETAILS = "\t1.2.3\t/p/Cargo.toml\t*\tpath\t/q\tyes\t"
+
+
 def row(name, values, condition=None, unknown=(), **options):
     """Returns a row with these values. Each unknown one has the next of the reasons."""
     reasons = iter(unknown)
     fields = {"package": "p", "renamed_from": None, "kind": "normal", "is_optional": False,
-              **options}
+              "package_version": "1.2.3", "package_manifest": "/p/Cargo.toml",
+              "source": manifest.Source("path", "/q"), **options}
     is_never, fault = fields.pop("is_never", False), fields.pop("fault", None)
     is_tried = fields.pop("is_tried", True)
     found = tuple(VALUES[value] for value in values)
@@ -280,17 +289,18 @@ class Programs(unittest.TestCase):
                 {"name": "t2", "triple": "t2", "host": False},
             ],
             "dependencies": [
-                {"package": "p", "name": "a", "renamed_from": "b", "kind": "normal",
+                {**USUAL, "package": "p", "name": "a", "renamed_from": "b", "kind": "normal",
                  "optional": True, "condition": "cfg(loom)", "values": ["-", "unknown", "unknown"],
                  "never": False, "tried": True, "fault": None,
                  "unknown": [{"platforms": [1, 2], "flags": ["loom"], "if_yes": {"loom": True},
                               "if_no": {"loom": False}}]},
-                {"package": "p", "name": "c", "renamed_from": None, "kind": "build",
+                {**USUAL, "package": "p", "name": "c", "renamed_from": None, "kind": "build",
                  "optional": False, "condition": "cfg(panic)", "values": ["no", "no", "no"],
                  "never": True, "unknown": [], "tried": True,
                  "fault": {"reason": "UNEXPECTED", "span": [4, 9]}},
-                {"package": "p", "name": "é\u202e", "renamed_from": None, "kind": "normal",
-                 "optional": False, "condition": None, "values": ["-", "unknown", "unknown"],
+                {**USUAL, "package": "p", "name": "é\u202e", "renamed_from": None,
+                 "kind": "normal", "optional": False, "condition": None,
+                 "values": ["-", "unknown", "unknown"],
                  "never": False, "tried": False, "fault": None,
                  "unknown": [{"platforms": [1], "flags": ["loom"], "if_yes": {"loom": True},
                               "if_no": {"loom": False}},
@@ -318,12 +328,14 @@ class Programs(unittest.TestCase):
         made = report(row("a", "-yn", "cfg(a)", kind="dev", is_optional=True),
                       row("b", "-y?", None, [LOOM]))
         self.assertEqual(list(_formats.tsv_of(made, False)), [
-            "package\tdependency\tkind\toptional\thost\tt1\tt2\tcondition",
-            "p\ta\tdev\tyes\t-\tyes\tno\tcfg(a)", "p\tb\tnormal\tno\t-\tyes\tunknown\t",
+            f"package\tdependency\tkind\toptional\thost\tt1\tt2\tcondition\t{DETAILED}",
+            f"p\ta\tdev\tyes\t-\tyes\tno\tcfg(a){DETAILS}",
+            f"p\tb\tnormal\tno\t-\tyes\tunknown\t{DETAILS}",
         ])
         self.assertEqual(list(_formats.tsv_of(made, True)), [
-            "package\tdependency\tkind\toptional\tyes\tno\tunknown\tnever\tcondition",
-            "p\ta\tdev\tyes\t1\t1\t0\tno\tcfg(a)", "p\tb\tnormal\tno\t1\t0\t1\tno\t",
+            f"package\tdependency\tkind\toptional\tyes\tno\tunknown\tnever\tcondition\t{DETAILED}",
+            f"p\ta\tdev\tyes\t1\t1\t0\tno\tcfg(a){DETAILS}",
+            f"p\tb\tnormal\tno\t1\t0\t1\tno\t{DETAILS}",
         ])
 
 

@@ -11,7 +11,7 @@ from .made import Shell
 import cfgx
 import cfgx.manifest
 from cfgx import _command, _files
-from cfgx.manifest import _cargo, _flags, _search
+from cfgx.manifest import _cargo, _flags, _reach, _search
 
 PAGE = os.path.join(ROOT, "docs", "PYTHON.md")
 README = os.path.join(ROOT, "README.md")
@@ -133,10 +133,17 @@ class Manifests(Shell):
             f"a try as {_search.TRY:,} and as {_search.TRY_EACH} for each predicate",
             f"evaluation of the condition as {_search.CALL} and", f"is kept as {_search.KEPT}.",
             f"a flag that is listed as {_search.LISTED},",
-            f"less than {test_budget.SECONDS} seconds of a processor",
+            f"search for ways takes counts as {_reach.STEP}, and a step in a way that is kept as"
+            f" {_reach.KEPT_STEP:,}", f"less than {test_budget.SECONDS} seconds of a processor",
             f"and {test_budget.MEGABYTES} MB on 320 targets",
         ]
         self.assertEqual([one for one in told if one not in text], [])
+
+    def test_how_many_steps_are_shown(self):
+        with open(MANIFESTS_PAGE, encoding="utf-8") as file:
+            text = " ".join(file.read().split())
+        self.assertIn(f"Of a way with more than {_reach.MOST_STEPS} steps, the last"
+                      f" {_reach.MOST_STEPS} are shown.", text)
 
 
 def load_tests(loader, tests, pattern):

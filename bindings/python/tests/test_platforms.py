@@ -81,6 +81,10 @@ class Table:
         """Returns the facts of a target."""
         return LINES[triple] + (["flagged"] if is_with_flags else [])
 
+    def each(self, triples):
+        """Returns the facts of targets with flags."""
+        return [self.lines(triple, True) for triple in triples]
+
 
 def platforms_of(targets=(), facts=None, host=None, **options):
     """Returns the platforms over facts that are made up."""

@@ -2,7 +2,7 @@
 import json
 
 from . import graphs
-from .test_budget import Costs, LETTERS
+from .test_budget import LETTERS, Measured
 
 import cfgx
 from cfgx.manifest import _cargo
@@ -48,10 +48,10 @@ GRAPHS = {
 }
 
 
-class Graphs(Costs):
+class Graphs(Measured):
     """How much time and memory the command takes for a graph."""
 
-    TOLD = "not all answers to flags and ways to packages were tried out"
+    WHAT = "answers to flags and ways to packages"
 
     def test_graphs(self):
         for name, (lines, is_whole) in GRAPHS.items():
@@ -61,8 +61,4 @@ class Graphs(Costs):
             self.write("metadata.json", found)
             for words in (["--format=json"], ["--format=tsv", "--summary"]):
                 with self.subTest(name=name, words=words):
-                    self.assert_bounded("--resolved", *words, is_whole=is_whole)
-
-
-# The tests of the base class run where it stands.
-del Costs
+                    self.assert_bounded("--resolved", *words, is_whole=is_whole, what=self.WHAT)

@@ -4,7 +4,6 @@ import os
 import unittest.mock
 
 from . import needs
-from .made import Folder
 from .test_command import HOST, WINDOWS, Made, dependency_of, package_of
 
 import cfgx
@@ -128,7 +127,8 @@ class Packages(Made):
         rows = [
             ([], "p"), (["--workspace"], "pqr"), (["--workspace", "--exclude", "q"], "pr"),
             (["--exclude", "q,p", "--workspace"], "r"), (["-p", "q,r"], "qr"),
-            (["--workspace", "--exclude", "q", "--exclude", "r"], "p"), (["-p", "q", "-p", "p"], "pq"),
+            (["--workspace", "--exclude", "q", "--exclude", "r"], "p"),
+            (["-p", "q", "-p", "p"], "pq"),
             (["--workspace", "--exclude=p,q,r"], ""), (["--package=r"], "r"),
         ]
         for words, wanted in rows:
@@ -193,7 +193,8 @@ class Lists(Made):
             self.assertEqual(self.values(*words)[0], ["host", WINDOWS, IOS])
 
     def test_flags(self):
-        self.list(dependency_of("a", 'cfg(all(a, k = "x,y", k = "z"))'), dependency_of("b", "cfg(b)"))
+        self.list(dependency_of("a", 'cfg(all(a, k = "x,y", k = "z"))'),
+                  dependency_of("b", "cfg(b)"))
         rows = [
             (["--cfg", 'a,k="x,y",k="z"'], {"a": ["yes"], "b": ["unknown"]}),
             (["--cfg", 'k="z",k="x,y"', "--cfg", "a,b"], {"a": ["yes"], "b": ["yes"]}),
@@ -283,7 +284,7 @@ class Known(Made):
         for text in rows:
             with self.subTest(text=text):
                 status, lines = self.fails(text, fail_on="never")
-                self.assertEqual((status, lines[1:]), (1, ['never true: p nowhere cfg(target_os = "x")']))
+                self.assertEqual((status, lines[1:]), (1, [NEVER[len("cfgx-deps: "):-1]]))
                 self.assertRegex(lines[0], r"^note: .*/known\.toml: entry 1: .* matches nothing$")
 
     def test_an_entry_that_matches_nothing(self):
@@ -332,7 +333,7 @@ class Statuses(Made):
         rows = [
             ([], 0), (["--fail-on", "unknown"], 0), (["--fail-on", "never"], 1),
             (["--fail-on", "often"], 2), (["-p", "q"], 2), (["--nothing"], 2),
-            (["--summary", "--format", "sarif"], 2), (["none"], 3), (["--facts", "none"], 3),
+            (["--summary", "--format", "sarif"], 2), (["--facts", "none"], 3),
             (["--known", "none"], 3), (["--fail-on", "never", "--known", "none"], 3),
         ]
         for words, wanted in rows:

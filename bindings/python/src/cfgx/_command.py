@@ -269,7 +269,9 @@ def run(words: argparse.Namespace) -> int:
     for reason in reasons:
         complain(reason)
     if not found.is_tried:
-        complain("not all answers to flags were tried out: the budget of a report is spent")
+        what = "answers to flags"
+        what += " and ways to packages" if isinstance(found, Resolved) else ""
+        complain(f"not all {what} were tried out: the budget of a report is spent")
     return FOUND if reasons else 0 if found.is_tried else FAILED
 
 

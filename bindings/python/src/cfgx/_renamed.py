@@ -1,4 +1,4 @@
-"""Names that changed. The old ones go on, with a `DeprecationWarning`."""
+"""Names of parameters that changed. The old ones go on, with a `DeprecationWarning`."""
 import functools
 import warnings
 from typing import Any, Callable, Dict, Tuple, TypeVar
@@ -41,12 +41,3 @@ def parameters(**changes: Tuple[str, Meaning]) -> Callable[[Function], Function]
         return accept  # type: ignore[return-value]
 
     return accepting
-
-
-def attribute(old: str, new: str) -> Any:
-    """Returns a property by the old name of an attribute."""
-    def value_of(self: object) -> Any:
-        warn(f"the attribute {old}", new)
-        return getattr(self, new)
-
-    return property(value_of, doc=f"The old name of `{new}`.")

@@ -1,8 +1,9 @@
 """compare.py NAME MANIFEST SETTING..: compares the packages that builds of a workspace have with
-those that `cargo tree` shows, for five targets and three lists of kinds, and prints the counts. Ends
-with status 1 if `cargo tree` shows a package that the report lacks, unless only a build-dependency
-of a package without a build script leads to it: `cargo tree` shows such a one, and no build has it.
-"""
+those that `cargo tree` shows, for five targets and three lists of kinds, and prints the counts.
+
+It ends with status 1 if `cargo tree` shows a package that the report lacks, unless only a
+build-dependency of a package without a build script leads to it: `cargo tree` shows such a one, and
+no build has it."""
 import dataclasses
 import os
 import re
@@ -49,8 +50,8 @@ def main(name, path, *settings):
     """Prints what differs, and the counts."""
     same = more = unread = lost = count = 0
     for kinds in KINDS:
-        options = {"is_workspace": True, "kinds": kinds, "settings": settings,
-                   "has_other_flags": False}
+        options = {"workspace": True, "kinds": kinds, "config": settings,
+                   "no_other_cfg": True}
         report = manifest.resolved(path, TARGETS, **options)
         with unittest.mock.patch.object(_cargo, "package_of", with_scripts):
             scripted = manifest.resolved(path, TARGETS, **options)

@@ -1,7 +1,7 @@
-"""stand_in.py MANIFEST FOLDER: makes the lock file of a workspace whose packages stand in a vendored
-folder of Debian. Debian takes packages for other systems out of that folder. For each that Cargo
-misses, this puts a package without code and dependencies there, with the name, the versions and the
-features that manifests ask for."""
+"""stand_in.py MANIFEST FOLDER: makes the lock file of a workspace whose packages stand in a folder
+of vendored packages of Debian. Debian takes packages for other systems out of that folder. For each
+that Cargo misses, this puts a package without code and dependencies there, with the name, the
+versions and the features that manifests ask for."""
 import glob
 import json
 import os

@@ -282,7 +282,8 @@ class Found:
         is_true = self._conditions.holds(step) >> platform & 1
         return Leg(
             self._build.graph.packages[step.place.package], step.edge.kind, step.edge.condition,
-            Value.YES if is_true else Value.UNKNOWN, self._conditions.flags(step, platform),
+            Value.YES if is_true else Value.UNKNOWN,
+            () if is_true else self._conditions.flags(step, platform),
             step.place.is_host or not self._has_target,
         )
 

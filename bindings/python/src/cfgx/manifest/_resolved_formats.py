@@ -87,7 +87,7 @@ def cells_of(report: Resolved, row: Used) -> List[str]:
 def summary_cells(report: Resolved) -> Tuple[List[str], List[Sequence[str]]]:
     """Returns the heads and the cells of the columns of a summary."""
     summaries = [summary_of(row.values, report.platforms) for row in report.rows]
-    cells = [
+    cells: List[Sequence[str]] = [
         [*(str(summary.counts[value]) for value in COUNTED),
          _table.smaller_group(summary, row.is_never)]
         for row, summary in zip(report.rows, summaries)
