@@ -79,7 +79,9 @@ class Sarif(Made):
     def results(self, *words, status=0):
         """Returns the results that the command writes, by the names of rows."""
         [run] = self.log(*words, status=status)[0]["runs"]
-        return {one["message"]["text"].split(": ")[0]: one for one in run["results"]}
+        found = {one["message"]["text"].split(": ")[0]: one for one in run["results"]}
+        self.assertEqual(len(found), len(run["results"]))
+        return found
 
     def test_the_run(self):
         log, _ = self.log()
