@@ -162,6 +162,15 @@ class Costs(Measured):
             with self.subTest(target=target, words=words):
                 self.assert_bounded(*words)
 
+    def test_sarif(self):
+        # The manifest is read for the places of the conditions.
+        count = self.list_conditions([f"a{number}" for number in range(40_000)])
+        lines = (f"[target.'cfg(a{number})'.dependencies]\nb=\"1\"\n" for number in range(count))
+        text = "".join(lines)
+        self.assertLess(len(text) / MOST, 1.4)
+        self.write("audited/Cargo.toml", text[:MOST])
+        self.assert_bounded("--format=sarif")
+
     def test_triples(self):
         self.list(*(dependency_of("b", f"a{number}") for number in range(40_000)))
         for words in (["--format=tsv"], ["--summary"]):

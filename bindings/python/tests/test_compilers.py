@@ -18,11 +18,11 @@ elif "--target" in words:
     name = words[words.index("--target") + 1]
     mark = os.path.join(folder, name)
     open(mark, "w").close()
-    # The others are waited for, as long as they take to start.
+    # The others are waited for, as they take some time to start.
     end = time.monotonic() + {seconds}
     while len(os.listdir(folder)) < {others} and time.monotonic() < end:
         time.sleep(0.01)
-    print(len(os.listdir(folder)))
+    print('running="%d"' % len(os.listdir(folder)))
     os.remove(mark)
     if name.startswith("bad"):
         sys.exit(f"no target {{name}}")
@@ -49,13 +49,13 @@ class Compilers(Made):
         with unittest.mock.patch.object(_process, "processors", return_value=3):
             found = list(self.compiler(path).each([f"t{number}" for number in range(6)]))
         self.assertEqual(len(found), 6)
-        self.assertEqual(max(int(line) for [line] in found), 3)
+        self.assertEqual(max(int(line.split('"')[1]) for [line] in found), 3)
 
     def test_one_processor(self):
         path = self.write_compiler(others=2, seconds=0.2)
         with unittest.mock.patch.object(_process, "processors", return_value=1):
             found = list(self.compiler(path).each(["a", "b", "c"]))
-        self.assertEqual(found, [["1"]] * 3)
+        self.assertEqual(found, [['running="1"']] * 3)
 
     def test_the_number_of_processors(self):
         wanted = len(os.sched_getaffinity(0)) if sys.platform == "linux" else os.cpu_count()
@@ -93,7 +93,7 @@ class Compilers(Made):
             given = ("--rustc", "--target", "a,b", *words)
             status, output, _ = self.command(*given, start=start, RUSTC=rustc, TERM="dumb")
             self.assertEqual(status, 0)
-            self.assertEqual("\rasked rustc of targets: 2 of 2\x1b[K\r\x1b[K" in output, is_told)
+            self.assertEqual("\rasked rustc of targets: 2 of 2\r     " in output, is_told)
         # In a pipe there is none.
         self.assertEqual(self.command("--rustc", "--target", "a,b", RUSTC=rustc)[2], "")
 

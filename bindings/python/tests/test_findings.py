@@ -79,7 +79,9 @@ class Sarif(Made):
     def results(self, *words, status=0):
         """Returns the results that the command writes, by the names of rows."""
         [run] = self.log(*words, status=status)[0]["runs"]
-        return {one["message"]["text"].split(": ")[0]: one for one in run["results"]}
+        found = {one["message"]["text"].split(": ")[0]: one for one in run["results"]}
+        self.assertEqual(len(found), len(run["results"]))
+        return found
 
     def test_the_run(self):
         log, _ = self.log()
@@ -106,7 +108,7 @@ class Sarif(Made):
         found = self.results()
         for (_, name, _), number in zip(FOUND, MARKED):
             [place] = found[name]["locations"]
-            file, region = (place["physicalLocation"][part] for part in ("artifactLocation", "region"))
+            file, region = map(place["physicalLocation"].get, ("artifactLocation", "region"))
             self.assertEqual(file, {"uri": "Cargo.toml", "uriBaseId": "SRCROOT"})
             self.assertEqual(region["startLine"], region["endLine"])
             line = lines[region["startLine"] - 1]
@@ -130,7 +132,7 @@ class Sarif(Made):
 
     def test_what_the_command_fails_for(self):
         found = self.results("--fail-on", "never", status=1)
-        self.assertEqual(list(found), [name for rule, name, _ in FOUND if rule == "never"])
+        self.assertEqual(set(found), {name for rule, name, _ in FOUND if rule == "never"})
         self.assertEqual({one["level"] for one in found.values()}, {"error"})
         self.assertEqual(list(self.results("--fail-on", "unknown", status=1)), ["p flag"])
 

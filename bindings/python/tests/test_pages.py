@@ -38,7 +38,7 @@ class Manifests(Shell):
 
     def write_watcher(self):
         """Writes the package on the page. Returns its folder."""
-        [manifest] = [text for language, text in blocks(MANIFESTS_PAGE) if language == "toml"]
+        manifest, _ = [text for language, text in blocks(MANIFESTS_PAGE) if language == "toml"]
         self.write("watcher/Cargo.toml", manifest)
         self.write("watcher/src/lib.rs")
         return os.path.join(self.folder, "watcher")
@@ -88,8 +88,8 @@ class Manifests(Shell):
     @needs("cargo", untested="the command of the page MANIFESTS that finds what is never true")
     def test_the_command_for_what_is_never_true(self):
         folder = self.write_watcher()
-        [command] = [text for language, text in blocks(MANIFESTS_PAGE)
-                     if language == "bash" and text.startswith("cfgx-deps ")]
+        command, _ = [text for language, text in blocks(MANIFESTS_PAGE)
+                      if language == "bash" and text.startswith("cfgx-deps ")]
         self.assertNotIn("never", self.output_of(command, folder))
         self.write("watcher/Cargo.toml", '[package]\nname = "a"\nversion = "0.1.0"\n'
                    "[target.'cfg(target_os = \"macosx\")'.dependencies]\nb = \"1\"\n")
@@ -97,6 +97,21 @@ class Manifests(Shell):
             self.output_of(command, folder)
         self.assertEqual(caught.exception.returncode, 1)
         self.assertIn("never", caught.exception.stdout.decode())
+
+    @needs("cargo", "Python 3.11 or tomli", untested="the command for a CI on the page MANIFESTS")
+    def test_the_command_for_a_ci(self):
+        folder = self.write_watcher()
+        _, command = [text for language, text in blocks(MANIFESTS_PAGE)
+                      if language == "bash" and text.startswith("cfgx-deps ")]
+        _, known = [text for language, text in blocks(MANIFESTS_PAGE) if language == "toml"]
+        self.write("watcher/known.toml", known)
+        with self.assertRaises(subprocess.CalledProcessError) as caught:
+            self.output_of(command, folder)
+        self.assertEqual(caught.exception.returncode, 1)
+        with open(MANIFESTS_PAGE, encoding="utf-8") as file:
+            [told] = re.findall("^`(cfgx-deps: unknown: .*)`:$", file.read(), re.M)
+        self.assertEqual(caught.exception.stderr.decode(), f"{told}\n")
+        self.assertIn("6 of 7 rows", caught.exception.stdout.decode())
 
     @needs("cargo", untested="the example in Python on the page MANIFESTS")
     def test_the_function(self):
