@@ -42,6 +42,11 @@ export function stateIn(address) {
   };
 }
 
+/** Returns the state of a text, of which nothing is chosen or decided yet. */
+export function stateOf(text) {
+  return stateIn(`#${new URLSearchParams({ c: text })}`);
+}
+
 /** Puts a state into the address at once. */
 export function write(state) {
   clearTimeout(timer);

@@ -96,7 +96,7 @@ export function showComparison([first, second], { forth, back, values }) {
     [element("li", {}, element("b", {}, `${one} and ${other} are equal`),
              ": on every target, whatever the switches say.")] :
     [implication(one, other, forth), implication(other, one, back)];
-  result.replaceChildren(...items, element("li", {}, differences(values)));
+  result.replaceChildren(element("li", {}, differences(values)), ...items);
 }
 
 /** Calls back after each choice, and with the triple of a target that is chosen. */

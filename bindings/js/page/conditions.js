@@ -59,8 +59,8 @@ export function joined(form, one, other) {
   return new Condition(-1, 0, form(one.inner, other.inner));
 }
 
-/** Reads texts, and keeps what it read of those that stay. While a line is faulty, its last condition
- * stays beside the fault, as long as there are as many lines. */
+/** Reads texts, and keeps what it read of those that stay. While a line is faulty, its last
+ * condition stays beside the fault, as long as there are as many lines. */
 export class Reader {
   #read = new Map();
   #last = new Map();
@@ -97,8 +97,8 @@ export class Reader {
   }
 }
 
-/** Returns the pieces of a line: each has a text, the kind of its token or `undefined`, and whether it
- * is at fault. */
+/** Returns the pieces of a line: each has a text, the kind of its token or `undefined`, and whether
+ * it is at fault. */
 export function piecesOf(line, condition) {
   if (condition === undefined) {
     return [{ text: line, kind: undefined, isFaulty: false }];

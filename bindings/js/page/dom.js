@@ -5,8 +5,8 @@ export function byId(id) {
   return document.getElementById(id);
 }
 
-/** Returns a new element with attributes and children, which are elements or texts. An attribute that
- * is `undefined` is left out. */
+/** Returns a new element with attributes and children, which are elements or texts. An attribute
+ * that is `undefined` is left out. */
 export function element(tag, attributes = {}, ...children) {
   const made = document.createElement(tag);
   for (const [name, value] of Object.entries(attributes)) {
@@ -25,7 +25,8 @@ export function setText(one, text) {
   }
 }
 
-/** Gives an element an attribute, and leaves it alone if it has it. Without a value, takes it away. */
+/** Gives an element an attribute, and leaves it alone if it has it. Without a value, takes it
+ * away. */
 export function setAttribute(one, name, value) {
   if (value === undefined) {
     one.removeAttribute(name);

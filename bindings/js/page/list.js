@@ -29,8 +29,8 @@ function fill(item, condition, numbers, isSelected) {
   [...bar.children].forEach((part) => {
     part.style.flexGrow = String(counts[part.dataset.value]);
   });
-  setText(told, !condition.fault ? ORDER.map((value) => `${counts[value]} ${NAMES[value]}`).join(" \u00b7 ") :
-    "is faulty");
+  const words = ORDER.map((value) => `${counts[value]} ${NAMES[value]}`).join(" \u00b7 ");
+  setText(told, condition.fault ? "is faulty" : words);
 }
 
 /** Shows all conditions, of which `numbersOf` returns the numbers of the values. */

@@ -17,9 +17,9 @@ import { DIFFERENCES, NAMES, counted } from "./words.js";
 
 const field = byId("text");
 const reader = new Reader();
-// What is shown: the lines of the text, their conditions and faults, the conditions that are shown for
-// them, the values of these, what stands at the caret, the condition whose values the picture has, the
-// chosen target, and the numbers of the two that are compared.
+// What is shown: the lines of the text, their conditions and faults, the conditions that are shown
+// for them, the values of these, what stands at the caret, the condition whose values the picture
+// has, the chosen target, and the numbers of the two that are compared.
 const shown = { lines: [], all: [], conditions: [], values: [], atCaret: undefined,
                 selected: undefined, target: undefined, compare: undefined };
 
@@ -35,8 +35,9 @@ function readText() {
   shown.lines = lines;
   shown.all = conditions;
   shown.conditions = conditions.map((one) => one.shown).filter((one) => one !== undefined);
+  const limits = `${counted(MOST_CONDITIONS, "condition")} and ${MOST_UNITS} characters`;
   setText(byId("limit"), isWhole && text === field.value ? "" :
-    `Only the first ${counted(MOST_CONDITIONS, "condition")} and ${MOST_UNITS} characters are read.`);
+    `Only the first ${limits} are read.`);
 }
 
 /** Finds the condition on the line of the caret, or else the nearest one. */
@@ -184,8 +185,7 @@ function listen() {
   byId("close").addEventListener("click", () => chooseTarget(undefined));
   byId("examples").addEventListener("click", ({ target }) => {
     if (target.dataset.text !== undefined) {
-      load({ ...address.stateIn(`#${new URLSearchParams({ c: target.dataset.text })}`),
-             triple: TRIPLES[shown.target] });
+      load({ ...address.stateOf(target.dataset.text), triple: TRIPLES[shown.target] });
     }
   });
   byId("copy-table").addEventListener("click", ({ currentTarget }) => {
@@ -206,4 +206,4 @@ function bytesIn(text) {
 startModule(await WebAssembly.compile(bytesIn(MODULE)));
 setText(byId("rustc"), `rustc ${rustcVersion()}`);
 listen();
-load(address.stateIn(location.hash) ?? address.stateIn(`#${new URLSearchParams({ c: field.value })}`));
+load(address.stateIn(location.hash) ?? address.stateOf(field.value));

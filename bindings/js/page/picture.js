@@ -45,8 +45,9 @@ function systemOf([name, numbers]) {
                        element("p", { class: "counts", "aria-hidden": "true" }, ...counts));
   const body = element("div", { class: "processors" }, ...grouped(numbers, "target_arch")
     .map(processorOf));
-  const made = element("section", { class: "system", role: "group",
-                                    "data-small": numbers.length < 3 ? "" : undefined }, head, body);
+  const attributes = { class: "system", role: "group" };
+  const made = element("section", attributes, head, body);
+  setAttribute(made, "data-small", numbers.length < 3 ? "" : undefined);
   return { made, name: title, numbers, counts };
 }
 
@@ -104,7 +105,9 @@ function cellBeside(cell, direction) {
   const from = cell.getBoundingClientRect();
   const others = order.map((target) => ({ target, box: CELLS[target].getBoundingClientRect() }))
     .filter(({ box }) => (box.top - from.top) * direction > from.height / 2);
-  const distance = ({ box }) => Math.abs(box.top - from.top) * 1000 + Math.abs(box.left - from.left);
+  const distance = ({ box: { top, left } }) => (
+    Math.abs(top - from.top) * 1000 + Math.abs(left - from.left)
+  );
   const [first, ...rest] = others;
   return rest.reduce((best, one) => (distance(one) < distance(best) ? one : best), first)?.target;
 }

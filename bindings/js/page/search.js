@@ -22,8 +22,8 @@ export class Budget {
   }
 }
 
-/** Returns the places of each predicate that is unknown among the predicates, by its text. The first
- * one in the condition comes first. */
+/** Returns the places of each predicate that is unknown among the predicates, by its text. The
+ * first one in the condition comes first. */
 function openPlaces({ predicates, texts }, numbers) {
   const places = new Map();
   const open = texts.map((_, at) => at).filter((at) => numbers[at] === UNKNOWN);

@@ -21,8 +21,8 @@ function numberOf(value) {
 class Answers {
   #rows = new Map();
 
-  /** Returns for each of the predicates, which are texts, the numbers of the answers of all targets.
-   * Asks the engine once for all that are new. */
+  /** Returns for each of the predicates, which are texts, the numbers of the answers of all
+   * targets. Asks the engine once for all that are new. */
   of(texts) {
     const missing = [...new Set(texts)].filter((text) => !this.#rows.has(text));
     if (missing.length > 0) {
@@ -40,8 +40,8 @@ class Answers {
 
 const answers = new Answers();
 
-/** Returns the predicates that some target leaves unknown, each once, in the order of the conditions.
- */
+/** Returns the predicates that some target leaves unknown, each once, in the order of the
+ * conditions. / */
 export function openPredicates(conditions) {
   const texts = [...new Set(conditions.flatMap((one) => one.texts))];
   const rows = answers.of(texts);

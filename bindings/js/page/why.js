@@ -12,6 +12,11 @@ const MOST_NODES = 300;
 // What a filling says of a predicate whose value does not matter.
 const EITHER = "either";
 
+/** Returns a paragraph that says something by the way. */
+function hint(text) {
+  return element("p", { class: "hint" }, text);
+}
+
 /** Returns the item of a list for a node and those below it, as many as `left` says. */
 function itemOf(node, left) {
   left.nodes -= 1;
@@ -34,8 +39,7 @@ function sizeOf(condition) {
 /** Returns the drawn tree of a condition over the numbers of answers. */
 function drawnTree(condition, numbers) {
   if (sizeOf(condition) > MOST_NODES) {
-    return [element("p", { class: "hint" }, `The tree has ${counted(sizeOf(condition), "node")}, too `
-      + "many to draw.")];
+    return [hint(`The tree has ${counted(sizeOf(condition), "node")}, too many to draw.`)];
   }
   const root = treeOf(condition, numbers);
   return [element("ul", { class: "tree", "aria-label": "The tree of the condition" },
@@ -66,11 +70,10 @@ function fillingsOf(canBe) {
 /** Returns what is said where the search and the tree differ, or where the search did not end. */
 function remarksOf({ canBe, isWhole }, value, inTree) {
   if (!isWhole) {
-    return [element("p", { class: "hint" }, "There are too many ways to set the switches, so not all "
-      + "of them were tried.")];
+    return [hint("There are too many ways to set the switches, so not all of them were tried.")];
   }
   if (canBe.size === 1 && inTree === UNKNOWN && value !== UNKNOWN) {
-    return [element("p", { class: "hint" }, `However the switches are set, it is ${NAMES[value]}.`)];
+    return [hint(`However the switches are set, it is ${NAMES[value]}.`)];
   }
   return [];
 }
@@ -134,7 +137,6 @@ export function showTarget(target, conditions, values, selected) {
 
 /** Shows that no target is chosen. */
 export function showNone() {
-  panel.replaceChildren(element("p", { class: "hint" },
-    "Choose a cell, by a click or by the keyboard: Tab leads to the picture, and the arrow keys from "
-    + "cell to cell."));
+  panel.replaceChildren(hint("Choose a cell, by a click or by the keyboard: Tab leads to the cells, "
+    + "and the arrow keys from one to another."));
 }

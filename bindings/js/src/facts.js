@@ -9,8 +9,8 @@ export function listed(items, what) {
   return [...items];
 }
 
-/** Returns the facts of a target: the lines of a text that are not empty, or a list. Only a line feed
- * ends a line, and a carriage return before it. */
+/** Returns the facts of a target: the lines of a text that are not empty, or a list. Only a line
+ * feed ends a line, and a carriage return before it. */
 export function factsOf(target) {
   if (typeof target !== "string") {
     return listed(target, "The facts of a target");

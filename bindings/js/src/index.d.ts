@@ -26,20 +26,20 @@ export type Answer = boolean | null | undefined;
  * - an iterable that is no `Map`, with one answer for each of `predicates`, in order;
  * - or a function, which is called with each occurrence of a predicate once, in the order of
  *   `predicates`, and returns its answer;
- * - or a `Map` from predicates to answers, which are found by `equals`. A predicate that is not in it
- *   is unknown, and one that the condition does not ask is passed over. So nothing tells that a flag
- *   or a value is misspelt. */
+ * - or a `Map` from predicates to answers, which are found by `equals`. A predicate that is not in
+ *   it is unknown, and one that the condition does not ask is passed over. So nothing tells that a
+ *   flag or a value is misspelt. */
 export type Answers =
   | Iterable<Answer>
   | ((predicate: Predicate) => Answer)
   | ReadonlyMap<Predicate, Answer>;
 
 /** What is known of a target: a text whose lines are facts, such as `rustc --print cfg` prints, or
- * an iterable of facts. Only a line feed ends a line, and a carriage return before it. Empty lines of
- * a text are no facts.
+ * an iterable of facts. Only a line feed ends a line, and a carriage return before it. Empty lines
+ * of a text are no facts.
  *
- * The predicates in a fact are true. If a fact begins with `?`, the predicates in the rest of it are
- * unknown, except those that another fact makes true. */
+ * The predicates in a fact are true. If a fact begins with `?`, the predicates in the rest of it
+ * are unknown, except those that another fact makes true. */
 export type Facts = string | Iterable<string>;
 
 /** How predicates are answered that no fact names. */
@@ -98,17 +98,17 @@ export type Kind =
   /** `target_vendor` */
   | "vendor";
 
-/** A predicate of a condition, which never changes. `parse` makes predicates, and so do the functions
- * with the names of the keys, such as `feature` and `targetOs`. */
+/** A predicate of a condition, which never changes. `parse` makes predicates, and so do the
+ * functions with the names of the keys, such as `feature` and `targetOs`. */
 export class Predicate implements Span {
   private constructor();
   /** The kind. */
   readonly kind: Kind;
-  /** The key: that of the kind, also for the words `unix` and `windows`, or else as it stands in the
-   * text. */
+  /** The key: that of the kind, also for the words `unix` and `windows`, or else as it stands in
+   * the text. */
   readonly key: string;
-  /** The value without its quotes, or `undefined` if there is none. A width has no sign and no zeros
-   * in front. */
+  /** The value without its quotes, or `undefined` if there is none. A width has no sign and no
+   * zeros in front. */
   readonly value: string | undefined;
   /** Where the predicate stands in the text that was passed: from its key to its last quote. */
   readonly start: number;
@@ -136,8 +136,8 @@ export type Reason =
   | "empty"
   /** A term that may not stand there. */
   | "unexpected"
-  /** A number that does not parse or is out of range, or a `target_endian` that is neither `big` nor
-   * `little`. */
+  /** A number that does not parse or is out of range, or a `target_endian` that is neither `big`
+   * nor `little`. */
   | "invalidInteger"
   /** More than one predicate, literal or function stands outside of every function. */
   | "multipleRootPredicates"
@@ -160,9 +160,9 @@ export class ParseError extends Error implements Fault {
   private constructor();
   /** The text as it was passed, in which the span counts. */
   readonly text: string;
-  /** The text without an outer `cfg( )` and, on the line below, marks and the reason, as the program
-   * cfgx prints them. There is one mark for each byte, so behind characters beyond ASCII the marks
-   * stand too far to the right. */
+  /** The text without an outer `cfg( )` and, on the line below, marks and the reason, as the
+   * program cfgx prints them. There is one mark for each byte, so behind characters beyond
+   * ASCII the marks stand too far to the right. */
   readonly message: string;
   readonly reason: Reason;
   readonly start: number;
@@ -199,8 +199,9 @@ export class OutOfMemoryError extends RangeError {}
 export interface Decision {
   /** The value, or `undefined` if it depends on the unknown answers. */
   readonly value: Value;
-  /** Answers with which the condition is true, if `value` is `undefined`, and otherwise `undefined`.
-   * There is one for each of `predicates`, in order, and those that were known stay. */
+  /** Answers with which the condition is true, if `value` is `undefined`, and otherwise
+   * `undefined`. There is one for each of `predicates`, in order, and those that were known
+   * stay. */
   readonly ifTrue: boolean[] | undefined;
   /** Answers with which the condition is false, in the same way. */
   readonly ifFalse: boolean[] | undefined;
@@ -214,17 +215,19 @@ export class Expression {
   readonly text: string;
   /** The text without an outer `cfg( )`. */
   readonly original: string;
-  /** The predicates in the order in which they are asked: in each list first those of its functions,
-   * one function after another, and then its own. So `all(a, any(b), c)` asks `b`, `a` and `c`. A
-   * predicate that stands twice is listed twice. */
+  /** The predicates in the order in which they are asked: in each list first those of its
+   * functions, one function after another, and then its own. So `all(a, any(b), c)` asks `b`,
+   * `a` and `c`. A predicate that stands twice is listed twice. */
   readonly predicates: readonly Predicate[];
   /** Returns the value over these answers, or `undefined` if it depends on the unknown ones. Two
-   * occurrences of a predicate may have different answers, so `any(a, not(a))` is unknown if `a` is.
+   * occurrences of a predicate may have different answers, so `any(a, not(a))` is unknown if
+   * `a` is.
    *
-   * Throws a `TypeError` for what is no answer, also for 0 and 1, and for a list of another length. */
+   * Throws a `TypeError` for what is no answer, also for 0 and 1, and for a list of another
+   * length. */
   eval(answers: Answers): Value;
-  /** Returns the value over these answers and, if it depends on the unknown ones, answers with which
-   * the condition is true, and answers with which it is false. Throws what `eval` throws. */
+  /** Returns the value over these answers and, if it depends on the unknown ones, answers with
+   * which the condition is true, and answers with which it is false. Throws what `eval` throws. */
   decide(answers: Answers): Decision;
   /** Returns the answers of a target to `predicates`, in order, for `eval` and `decide`. Throws a
    * `FactError` for the first faulty fact, with 0 as the number of the target. */
@@ -235,8 +238,8 @@ export class Expression {
   toString(): string;
 }
 
-/** Returns the condition that a text is, which may stand in `cfg( )`. Throws a `ParseError` with the
- * first fault if the text is no condition. */
+/** Returns the condition that a text is, which may stand in `cfg( )`. Throws a `ParseError` with
+ * the first fault if the text is no condition. */
 export function parse(text: string): Expression;
 
 /** Returns the first fault of a text, or `undefined` if the text is a condition. */
@@ -256,8 +259,8 @@ export interface Token extends Span {
 export interface Tokens {
   /** The tokens, one after another. */
   readonly tokens: Token[];
-  /** The fault at which the tokens end: a character with which no token can start, or a quote that is
-   * never closed. `check` may find another one before it. */
+  /** The fault at which the tokens end: a character with which no token can start, or a quote that
+   * is never closed. `check` may find another one before it. */
   readonly fault: Fault | undefined;
 }
 
@@ -272,8 +275,8 @@ export function audit(
   conditions: Iterable<Expression | string>, targets: Iterable<Facts>, options?: FactsOptions,
 ): Value[][];
 
-/** Returns the triples of all targets of one rustc, in order. `rustcVersion` says of which one. They
- * come from a table in the package, so no compiler is needed. */
+/** Returns the triples of all targets of one rustc, in order. `rustcVersion` says of which one.
+ * They come from a table in the package, so no compiler is needed. */
 export function targets(): string[];
 
 /** Returns the facts of one of `targets`, in order: the lines that rustc prints if Cargo asks,
@@ -283,8 +286,8 @@ export function targetFacts(triple: string): string[];
 /** Returns the version of the rustc that has the targets of `targets`, such as `"1.95.0"`. */
 export function rustcVersion(): string;
 
-/** Returns the version of the engine: that of the language of conditions, and the major and the minor
- * version of its calls. */
+/** Returns the version of the engine: that of the language of conditions, and the major and the
+ * minor version of its calls. */
 export function version(): string;
 
 /** Returns the predicate of a bare key without a meaning of its own, such as `loom`. Throws a

@@ -1,5 +1,5 @@
-/** The calls of cfgx.h in the WebAssembly module, whose sizes have 64 bits. A text is an array of its
- * bytes here, and places count bytes. */
+/** The calls of cfgx.h in the WebAssembly module, whose sizes have 64 bits. A text is an array of
+ * its bytes here, and places count bytes. */
 import { OutOfMemoryError, REASONS, TERM_LISTS } from "./errors.js";
 import { spanOf, unitsIn } from "./text.js";
 
@@ -252,8 +252,8 @@ export function bytesOfSteps(steps) {
   return new Uint8Array(view.buffer);
 }
 
-/** Returns the number of the value of the steps of a condition over the numbers of as many answers as
- * it has predicates. */
+/** Returns the number of the value of the steps of a condition over the numbers of as many answers
+ * as it has predicates. */
 export function apply(steps, answers) {
   return withRoom((room) => {
     const value = room.take(1);
@@ -263,8 +263,9 @@ export function apply(steps, answers) {
   });
 }
 
-/** Returns the fillings of a condition that is unknown over the numbers of as many answers as it has
- * predicates: the numbers of answers with which it is true, and of those with which it is false. */
+/** Returns the fillings of a condition that is unknown over the numbers of as many answers as it
+ * has predicates: the numbers of answers with which it is true, and of those with which it is
+ * false. */
 export function fillings(text, answers) {
   return withRoom((room) => {
     const count = answers.length;

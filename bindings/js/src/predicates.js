@@ -3,7 +3,8 @@ import { ParseError } from "./errors.js";
 import { parse } from "./expression.js";
 import { named } from "./text.js";
 
-/** Returns the predicate with a key and perhaps a value. Throws a `TypeError` if no text asks it. */
+/** Returns the predicate with a key and perhaps a value. Throws a `TypeError` if no text asks
+ * it. */
 function made(kind, key, value) {
   for (const part of value === undefined ? [key] : [key, value]) {
     if (typeof part !== "string") {

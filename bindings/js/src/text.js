@@ -32,8 +32,9 @@ export function utf8Of(text) {
   return encoded(text);
 }
 
-/** Returns texts in UTF-8. Throws what `utf8Of` throws, and an `OutOfMemoryError` for texts that are
- * too long together, of which none is read: a text has at least as many bytes as code units. */
+/** Returns texts in UTF-8. Throws what `utf8Of` throws, and an `OutOfMemoryError` for texts that
+ * are too long together, of which none is read: a text has at least as many bytes as code
+ * units. */
 export function utf8OfAll(texts) {
   const lengths = texts.map((text) => (typeof text === "string" ? text.length : 0));
   if (lengths.reduce((sum, length) => sum + length, 0) >= MOST_MEMORY) {
@@ -64,8 +65,8 @@ function unitsOf(byte) {
   return (byte & 0xc0) === 0x80 ? 0 : byte < 0xf0 ? 1 : 2;
 }
 
-/** Returns the function from a place in the bytes of a text to that in its UTF-16 code units. All of
- * a character stands before a place inside of it. */
+/** Returns the function from a place in the bytes of a text to that in its UTF-16 code units.
+ * All of a character stands before a place inside of it. */
 export function unitsIn(bytes, text) {
   if (bytes.length === text.length) {
     return (place) => place;

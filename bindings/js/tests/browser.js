@@ -216,6 +216,16 @@ export class Page {
     await this.settle();
   }
 
+  /** Chooses an option of a list. */
+  async choose(selector, value) {
+    await this.see(`(() => {
+      const list = document.querySelector(${JSON.stringify(selector)});
+      list.value = ${JSON.stringify(value)};
+      list.dispatchEvent(new Event("change", { bubbles: true }));
+    })()`);
+    await this.settle();
+  }
+
   /** Returns a picture of the page, or of its first pixels from the top on, as bytes of a PNG. */
   async picture(height = undefined) {
     const { cssContentSize, cssVisualViewport } = await this.send("Page.getLayoutMetrics");

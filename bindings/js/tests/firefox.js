@@ -86,12 +86,14 @@ export class Firefox {
     return value;
   }
 
-  /** Ends it. */
+  /** Ends it, if it was started. */
   async close() {
-    const ended = once(this.#process, "exit");
-    this.#socket?.destroy();
-    this.#process.kill();
-    await ended;
+    if (this.#process !== undefined) {
+      const ended = once(this.#process, "exit");
+      this.#socket?.destroy();
+      this.#process.kill();
+      await ended;
+    }
     rmSync(this.#folder, { recursive: true, force: true, maxRetries: 5 });
   }
 }

@@ -4,7 +4,7 @@ import { mkdtempSync, rmSync, writeFileSync } from "node:fs";
 import { tmpdir } from "node:os";
 import { join } from "node:path";
 import { pathToFileURL } from "node:url";
-import { describe, it } from "node:test";
+import { test } from "node:test";
 import * as cfgx from "../src/node.js";
 import { read } from "./rows.js";
 
@@ -20,30 +20,28 @@ function programOf(block) {
     .replace(SHOWN, (_, code, wanted) => `assert.deepEqual(${code}, ${wanted});`)}`;
 }
 
-describe("the page for JavaScript", () => {
-  it("has examples that are so", async () => {
-    const folder = mkdtempSync(join(tmpdir(), "cfgx-page-"));
-    try {
-      for (const [at, block] of BLOCKS.entries()) {
-        const path = join(folder, `block-${at}.mjs`);
-        writeFileSync(path, programOf(block));
-        await import(pathToFileURL(path));
-      }
-    } finally {
-      rmSync(folder, { recursive: true });
+test("the page for JavaScript has examples that are so", async () => {
+  const folder = mkdtempSync(join(tmpdir(), "cfgx-page-"));
+  try {
+    for (const [at, block] of BLOCKS.entries()) {
+      const path = join(folder, `block-${at}.mjs`);
+      writeFileSync(path, programOf(block));
+      await import(pathToFileURL(path));
     }
-    assert.equal(BLOCKS.length, 3);
-    assert.equal(BLOCKS.flatMap((block) => [...block.matchAll(SHOWN)]).length, 19);
-  });
+  } finally {
+    rmSync(folder, { recursive: true });
+  }
+  assert.equal(BLOCKS.length, 3);
+  assert.equal(BLOCKS.flatMap((block) => [...block.matchAll(SHOWN)]).length, 18);
+});
 
-  it("would fail for an example that is not so", async () => {
-    const url = `data:text/javascript,${encodeURIComponent(programOf("1 + 1; // 3\n"))}`;
-    await assert.rejects(import(url), assert.AssertionError);
-  });
+test("the page for JavaScript would fail for an example that is not so", async () => {
+  const url = `data:text/javascript,${encodeURIComponent(programOf("1 + 1; // 3\n"))}`;
+  await assert.rejects(import(url), assert.AssertionError);
+});
 
-  it("names the exports that it uses", () => {
-    for (const [, names] of PAGE.matchAll(/^import \{ (.*?) \} from "cfgx";$/gm)) {
-      assert.ok(names.split(", ").every((name) => name in cfgx), names);
-    }
-  });
+test("the page for JavaScript names the exports that it uses", () => {
+  for (const [, names] of PAGE.matchAll(/^import \{ (.*?) \} from "cfgx";$/gm)) {
+    assert.ok(names.split(", ").every((name) => name in cfgx), names);
+  }
 });

@@ -1,6 +1,6 @@
 /** The recorded rows, and what the package finds. */
 import assert from "node:assert/strict";
-import { describe, it } from "node:test";
+import { test } from "node:test";
 import * as cfgx from "../src/node.js";
 import { rowsOf, rustCrate, tables, tablesIn, unescaped } from "./rows.js";
 
@@ -71,7 +71,8 @@ function parsed(text) {
     { status: 1, output: `${error.message}\n` };
 }
 
-/** Returns the place in UTF-16 code units of a byte. A character that the byte cuts counts whole. */
+/** Returns the place in UTF-16 code units of a byte. A character that the byte cuts counts
+ * whole. */
 function unitsBefore(text, byte) {
   let units = 0;
   for (let bytes = 0; bytes < byte;) {
@@ -82,140 +83,136 @@ function unitsBefore(text, byte) {
   return units;
 }
 
-describe("the files of rows", () => {
-  it("have no table that is not known", () => {
-    const checks = tables().map(({ check }) => check);
-    const found = checks.filter((check) => !check.startsWith("each size of "));
-    assert.deepEqual(new Set(found), new Set([...TESTED, ...OTHERS]));
-  });
-
-  it("are refused if they have other rows than a head counts", () => {
-    for (const head of ["[run: 0 rows]", "[run: 2 rows]"]) {
-      assert.throws(() => tablesIn([head, "status | words", "# a comment", "", "0 | parse"]));
-    }
-    const table = ["[run: 1 row]", "status | words", "0 | parse | a"];
-    const wanted = { check: "run", rows: [["0", "parse", "a"]] };
-    assert.deepEqual(tablesIn([...table, "", ...table]), [wanted, wanted]);
-  });
-
-  it("are refused if a word is misspelt", () => {
-    for (const field of ["ture", "1 0 1", "1", "2 0"]) {
-      assert.throws(() => decisionOf(field), { code: "ERR_ASSERTION" });
-    }
-  });
+test("the files of rows have no table that is not known", () => {
+  const checks = tables().map(({ check }) => check);
+  const found = checks.filter((check) => !check.startsWith("each size of "));
+  assert.deepEqual(new Set(found), new Set([...TESTED, ...OTHERS]));
 });
 
-describe("the recorded rows", () => {
-  it("of the Rust crate", () => {
-    const rows = rustCrate();
-    for (const { text, ...wanted } of rows) {
-      assert.deepEqual(parsed(text), wanted, text);
-    }
-    assert.equal(rows.length, 1962);
-  });
+test("the files of rows are refused if they have other rows than a head counts", () => {
+  for (const head of ["[run: 0 rows]", "[run: 2 rows]"]) {
+    assert.throws(() => tablesIn([head, "status | words", "# a comment", "", "0 | parse"]));
+  }
+  const table = ["[run: 1 row]", "status | words", "0 | parse | a"];
+  const wanted = { check: "run", rows: [["0", "parse", "a"]] };
+  assert.deepEqual(tablesIn([...table, "", ...table]), [wanted, wanted]);
+});
 
-  it("of runs of parse", () => {
-    const runs = rowsOf("run").filter(([status, , command]) => (
-      command === "parse" && Number(status) < 2
-    ));
-    for (const [status, output, , ...texts] of runs) {
-      assert.equal(texts.length, 1);
-      const wanted = { status: Number(status), output: unescaped(output) };
-      assert.deepEqual(parsed(unescaped(texts[0])), wanted, texts[0]);
-    }
-    assert.deepEqual(new Set(runs.map(([status]) => status)), new Set(["0", "1"]));
-  });
+test("the files of rows are refused if a word is misspelt", () => {
+  for (const field of ["ture", "1 0 1", "1", "2 0"]) {
+    assert.throws(() => decisionOf(field), { code: "ERR_ASSERTION" });
+  }
+});
 
-  it("of faults", () => {
-    for (const [field, fault] of rowsOf("fault", "fault in the stripped text")) {
-      const text = unescaped(field);
-      const [, reason, start, end] = /^(.*) at (\d+)\.\.(\d+)$/.exec(fault);
-      const offset = text.startsWith("cfg(") && text.endsWith(")") ? 4 : 0;
-      const bytes = [start, end].map((place) => offset + Number(place));
-      const units = bytes.map((byte) => unitsBefore(text, byte));
-      const error = errorOf(text);
-      assert.deepEqual([reasonOf(error), error.byteStart, error.byteEnd], [reason, ...bytes], text);
-      assert.deepEqual([error.start, error.end], units, text);
-      const { start: from, end: to, byteStart, byteEnd, expected, members } = error;
-      const wanted = { reason: error.reason, start: from, end: to, byteStart, byteEnd, expected,
-                       members };
-      assert.deepEqual(cfgx.check(text), wanted, text);
-    }
-  });
+test("the recorded rows of the Rust crate", () => {
+  const rows = rustCrate();
+  for (const { text, ...wanted } of rows) {
+    assert.deepEqual(parsed(text), wanted, text);
+  }
+  assert.equal(rows.length, 1962);
+});
 
-  it("of faults, as faults of facts", () => {
-    let count = 0;
-    for (const [field] of rowsOf("fault", "fault in the stripped text")) {
-      const text = unescaped(field);
-      // A mark is no part of the text.
-      const fact = text.startsWith("?") ? text : `?${text}`;
-      try {
-        cfgx.audit([], [[fact]]);
-      } catch (error) {
-        const { reason, start, end } = errorOf(fact.slice(1));
-        assert.ok(error instanceof cfgx.FactError, error);
-        assert.deepEqual([error.reason, error.start - 1, error.end - 1], [reason, start, end]);
-        count++;
-      }
-    }
-    assert.ok(count > 100, String(count));
-  });
+test("the recorded rows of runs of parse", () => {
+  const runs = rowsOf("run").filter(([status, , command]) => (
+    command === "parse" && Number(status) < 2
+  ));
+  for (const [status, output, , ...texts] of runs) {
+    assert.equal(texts.length, 1);
+    const wanted = { status: Number(status), output: unescaped(output) };
+    assert.deepEqual(parsed(unescaped(texts[0])), wanted, texts[0]);
+  }
+  assert.deepEqual(new Set(runs.map(([status]) => status)), new Set(["0", "1"]));
+});
 
-  it("of predicates", () => {
-    for (const [text, predicates] of rowsOf("predicates")) {
-      const found = cfgx.parse(unescaped(text)).predicates;
-      assert.equal(found.join("\n"), unescaped(predicates), text);
-    }
-  });
+test("the recorded rows of faults", () => {
+  for (const [field, fault] of rowsOf("fault", "fault in the stripped text")) {
+    const text = unescaped(field);
+    const [, reason, start, end] = /^(.*) at (\d+)\.\.(\d+)$/.exec(fault);
+    const offset = text.startsWith("cfg(") && text.endsWith(")") ? 4 : 0;
+    const bytes = [start, end].map((place) => offset + Number(place));
+    const units = bytes.map((byte) => unitsBefore(text, byte));
+    const error = errorOf(text);
+    assert.deepEqual([reasonOf(error), error.byteStart, error.byteEnd], [reason, ...bytes], text);
+    assert.deepEqual([error.start, error.end], units, text);
+    const { start: from, end: to, byteStart, byteEnd, expected, members } = error;
+    const wanted = { reason: error.reason, start: from, end: to, byteStart, byteEnd, expected,
+                     members };
+    assert.deepEqual(cfgx.check(text), wanted, text);
+  }
+});
 
-  it("of spellings", () => {
-    for (const [text, spellings] of rowsOf("spelling")) {
-      assert.equal(cfgx.parse(unescaped(text)).predicates.join(""), unescaped(spellings), text);
+test("the recorded rows of faults, as faults of facts", () => {
+  let count = 0;
+  for (const [field] of rowsOf("fault", "fault in the stripped text")) {
+    const text = unescaped(field);
+    // A mark is no part of the text.
+    const fact = text.startsWith("?") ? text : `?${text}`;
+    try {
+      cfgx.audit([], [[fact]]);
+    } catch (error) {
+      const { reason, start, end } = errorOf(fact.slice(1));
+      assert.ok(error instanceof cfgx.FactError, error);
+      assert.deepEqual([error.reason, error.start - 1, error.end - 1], [reason, start, end]);
+      count++;
     }
-  });
+  }
+  assert.ok(count > 100, String(count));
+});
 
-  it("of stripped texts", () => {
-    for (const [text, stripped] of rowsOf("stripped text")) {
-      const expression = cfgx.parse(unescaped(text));
-      assert.equal(expression.original, unescaped(stripped), text);
-      assert.equal(String(expression), unescaped(stripped), text);
-    }
-  });
+test("the recorded rows of predicates", () => {
+  for (const [text, predicates] of rowsOf("predicates")) {
+    const found = cfgx.parse(unescaped(text)).predicates;
+    assert.equal(found.join("\n"), unescaped(predicates), text);
+  }
+});
 
-  it("of equality", () => {
-    for (const [text, other, wanted] of rowsOf("equality")) {
-      const isEqual = cfgx.parse(unescaped(text)).equals(cfgx.parse(unescaped(other)));
-      assert.equal(isEqual ? "equal" : "different", wanted, `${text} ${other}`);
-    }
-  });
+test("the recorded rows of spellings", () => {
+  for (const [text, spellings] of rowsOf("spelling")) {
+    assert.equal(cfgx.parse(unescaped(text)).predicates.join(""), unescaped(spellings), text);
+  }
+});
 
-  it("of fillings", () => {
-    for (const [text, field, wanted] of rowsOf("fillings")) {
-      const [expression, answers] = [cfgx.parse(unescaped(text)), answersOf(field)];
-      const decision = expression.decide(answers);
-      assert.deepEqual(decision, decisionOf(wanted), `${text} ${field}`);
-      assert.equal(expression.eval(answers), decision.value);
-      if (decision.value === undefined) {
-        assert.equal(expression.eval(decision.ifTrue), true);
-        assert.equal(expression.eval(decision.ifFalse), false);
-      }
-    }
-  });
+test("the recorded rows of stripped texts", () => {
+  for (const [text, stripped] of rowsOf("stripped text")) {
+    const expression = cfgx.parse(unescaped(text));
+    assert.equal(expression.original, unescaped(stripped), text);
+    assert.equal(String(expression), unescaped(stripped), text);
+  }
+});
 
-  it("of values on facts", () => {
-    const runs = rowsOf("run").filter(([status, , command]) => status === "0" && command === "eval");
-    const [conditions, facts, values] = [[], [], []];
-    for (const [, output, , ...words] of runs) {
-      const [condition, ...rest] = words.map(unescaped);
-      const value = PRINTED[unescaped(output)];
-      conditions.push(condition);
-      facts.push(rest);
-      values.push(value);
-      const expression = cfgx.parse(condition);
-      assert.equal(expression.eval(expression.answers(rest, { otherwise: false })), value);
+test("the recorded rows of equality", () => {
+  for (const [text, other, wanted] of rowsOf("equality")) {
+    const isEqual = cfgx.parse(unescaped(text)).equals(cfgx.parse(unescaped(other)));
+    assert.equal(isEqual ? "equal" : "different", wanted, `${text} ${other}`);
+  }
+});
+
+test("the recorded rows of fillings", () => {
+  for (const [text, field, wanted] of rowsOf("fillings")) {
+    const [expression, answers] = [cfgx.parse(unescaped(text)), answersOf(field)];
+    const decision = expression.decide(answers);
+    assert.deepEqual(decision, decisionOf(wanted), `${text} ${field}`);
+    assert.equal(expression.eval(answers), decision.value);
+    if (decision.value === undefined) {
+      assert.equal(expression.eval(decision.ifTrue), true);
+      assert.equal(expression.eval(decision.ifFalse), false);
     }
-    const table = cfgx.audit(conditions, facts, { otherwise: false });
-    assert.deepEqual(table.map((row, at) => row[at]), values);
-    assert.ok(values.length > 30);
-  });
+  }
+});
+
+test("the recorded rows of values on facts", () => {
+  const runs = rowsOf("run").filter(([status, , command]) => status === "0" && command === "eval");
+  const [conditions, facts, values] = [[], [], []];
+  for (const [, output, , ...words] of runs) {
+    const [condition, ...rest] = words.map(unescaped);
+    const value = PRINTED[unescaped(output)];
+    conditions.push(condition);
+    facts.push(rest);
+    values.push(value);
+    const expression = cfgx.parse(condition);
+    assert.equal(expression.eval(expression.answers(rest, { otherwise: false })), value);
+  }
+  const table = cfgx.audit(conditions, facts, { otherwise: false });
+  assert.deepEqual(table.map((row, at) => row[at]), values);
+  assert.ok(values.length > 30);
 });

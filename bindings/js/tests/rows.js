@@ -66,3 +66,16 @@ export function rustCrate() {
       { text: unescaped(text), status: Number(status), output: unescaped(output) }
     ));
 }
+
+/** Returns the targets of the table that rustc gave, each with its cells by the names of columns.
+ */
+export function targetRows() {
+  const [, columns, ...rows] = read("bindings/targets/targets.tsv").trimEnd().split("\n")
+    .map((line) => line.split("\t"));
+  return rows.map((cells) => Object.fromEntries(columns.map((name, at) => [name, cells[at]])));
+}
+
+/** Returns whether a target has a family. */
+export function hasFamily(target, family) {
+  return target.target_family.split(" ").includes(family);
+}

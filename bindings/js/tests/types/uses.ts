@@ -1,4 +1,5 @@
-/** Uses of the package that its types accept, and below `@ts-expect-error` some that they refuse. */
+/** Uses of the package that its types accept, and below `@ts-expect-error` some that they
+ * refuse. */
 import * as cfgx from "cfgx";
 import {
   type Answer, type Answers, type Decision, type Facts, type FactsOptions, type Fault, type Kind,
