@@ -38,7 +38,7 @@ REFUSED = [
     ("any(unix,,)", Reason.UNEXPECTED), ("any(,)", Reason.UNEXPECTED), ("not()", Reason.MEMBERS),
     ("not(a,b)", Reason.MEMBERS), ("not(,a)", Reason.UNEXPECTED), ("", Reason.ROOTS),
     (",", Reason.UNEXPECTED), ("a,b", Reason.ROOTS), ("a,,", Reason.ROOTS),
-    ('true="x"', Reason.UNEXPECTED), ("fn", Reason.UNEXPECTED), ("self", Reason.UNEXPECTED),
+    ('true="x"', Reason.ROOTS), ("fn", Reason.UNEXPECTED), ("self", Reason.UNEXPECTED),
     ("crate", Reason.UNEXPECTED), ("_", Reason.UNEXPECTED), ("async", Reason.UNEXPECTED),
     ('fn="x"', Reason.UNEXPECTED), ("a::b", Reason.UNEXPECTED), ("::a", Reason.UNEXPECTED),
     ("foo(unix)", Reason.UNKNOWN), ("feature(x)", Reason.UNKNOWN), ("a=1", Reason.UNEXPECTED),
@@ -150,7 +150,7 @@ class Conditions(unittest.TestCase):
         code = read('\ufeff// \u00e9\n#[cfg(all(unix, /* \u00e9 */ r#b = r"x"))] fn f() {}')
         [found] = code.conditions
         self.assertEqual(found.text, 'all(unix, b = "x")')
-        self.assertEqual(found.place, (2, 7, 2, 40, 15, 49))
+        self.assertEqual(found.place, (2, 7, 2, 36, 15, 45))
         rows = [((0, 3), (2, 7, 10, 15, 18)), ((4, 8), (2, 11, 15, 19, 23)),
                 ((10, 11), (2, 25, 28, 34, 37)), ((14, 17), (2, 31, 35, 40, 44))]
         for (start, end), (line, column, end_column, first, last) in rows:
