@@ -26,10 +26,11 @@ JAVASCRIPT_README = "bindings/js/README.md"
 MOVED = "docs/CFGX.md"
 # Where pip puts the pages of a wheel, below the folder of the environment.
 DOCUMENTS = "share/doc/cfgx"
-# Where it puts what is made of the command: its manual page, and what shells complete its words by,
+# Where it puts what is made of the commands: manual pages, and what shells complete its words by,
 # where they look for it. Behind each stands what it is made by.
 MAKER = ("-B", "manual/make")
 MADE = {
+    "share/man/man1/cfgx-code.1": ("code",),
     "share/man/man1/cfgx-deps.1": ("deps",),
     "share/bash-completion/completions/cfgx-deps": ("completion", "bash"),
     "share/fish/vendor_completions.d/cfgx-deps.fish": ("completion", "fish"),
@@ -44,7 +45,7 @@ PC = "lib/pkgconfig/cfgx.pc"
 RELATIVE = "prefix=${pcfiledir}/../..\n"
 
 # The commands of the package.
-SCRIPTS = ("cargo-cfgx-deps", "cfgx-deps")
+SCRIPTS = ("cargo-cfgx-deps", "cfgx-code", "cfgx-deps")
 
 
 class Wheel(NamedTuple):

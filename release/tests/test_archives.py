@@ -215,9 +215,9 @@ class Wheel(unittest.TestCase):
 
     def test_entry_points(self):
         """The commands are those that a wheel from the folder of the package would have."""
-        scripts = re.findall(r'^(\S*cfgx-deps) = "(.*)"$',
+        scripts = re.findall(r'^(\S*cfgx-\w+) = "(.*)"$',
                              repository.read_text("bindings/python/pyproject.toml"), re.M)
-        self.assertEqual(len(scripts), 2)
+        self.assertEqual(len(scripts), 3)
         lines = sorted(" = ".join(script) for script in scripts)
         self.assertEqual(self.archive.read(f"{INFORMATION}/entry_points.txt").decode(),
                          "\n".join(["[console_scripts]", *lines, ""]))

@@ -23,7 +23,9 @@ FIXED = re.compile(
 )
 # How many characters one question may have, and all of a report. A condition inside of ten thousand
 # others, or the last of as many branches, would have too many.
-MOST_CHARACTERS, MOST_ALL = 1 << 16, 1 << 26
+MOST_CHARACTERS, MOST_ALL = 1 << 16, 1 << 25
+# How many guards around a condition are looked at one by one.
+MOST_AROUND = 256
 # Of how many items or branches it is asked whether two are taken.
 MOST_COMPARED = 32
 
@@ -108,16 +110,17 @@ def guard_texts(guard: Optional[Guard], outside: Optional[Guard] = None) -> Opti
             break
         if one.text is not None:
             texts.append(one.text)
-            size += len(one.text)
+        size += len(one.text or "") + 1
         if size > MOST_CHARACTERS:
             return None
     return list(dict.fromkeys(reversed(texts)))
 
 
 def is_whole(guard: Optional[Guard], outside: Optional[Guard] = None) -> bool:
-    """Whether a guard and those around it up to another one were read."""
+    """Whether a guard and those around it up to another one were read, as far as they are looked
+    at."""
     inside = itertools.takewhile(lambda one: one is not outside, [] if guard is None else guard.all)
-    return all(one.text is not None for one in inside)
+    return all(one.text is not None for one in itertools.islice(inside, MOST_AROUND))
 
 
 def all_of(texts: Sequence[str]) -> str:
@@ -221,10 +224,9 @@ class Judged:
 
     def _within(self, one: Condition, never: Dict[int, int]) -> Optional[int]:
         """Returns the number of the outermost condition that never holds around another."""
-        guard = one.guard
-        while guard is not None and (guard.is_negated or guard.number not in never):
-            guard = guard.outer
-        return None if guard is None else never[guard.number]
+        around = itertools.islice([] if one.guard is None else one.guard.all, MOST_AROUND)
+        found = (guard.number for guard in around if not guard.is_negated)
+        return next((never[number] for number in found if number in never), None)
 
     def _verdict(self, one: Condition, answer: Optional[Answer]) -> Verdict:
         """Returns what a condition is."""
