@@ -5,6 +5,8 @@ import { Expression, parse, tokens } from "../src/expression.js";
 /** The most conditions and code units that are read, so that the page answers each key at once. */
 export const MOST_CONDITIONS = 60;
 export const MOST_UNITS = 30_000;
+// The most tokens of a line that are painted.
+const MOST_TOKENS = 1500;
 
 // Where a condition stands in an attribute of Rust, and in the head of a table of a Cargo.toml.
 const FORMS = [
@@ -40,6 +42,10 @@ export class Condition {
     Object.assign(this, { line, offset, text, ...read(text) });
     this.predicates = this.expression?.predicates ?? [];
     this.texts = this.predicates.map(String);
+    // Each predicate once, and the number that each occurrence has among these.
+    this.distinct = [...new Set(this.texts)];
+    const numbers = new Map(this.distinct.map((one, at) => [one, at]));
+    this.numbers = this.texts.map((one) => numbers.get(one));
   }
 
   /** The nodes of the tree as they stand in the text, each function in front of its members. */
@@ -104,7 +110,8 @@ export function piecesOf(line, condition) {
     return [{ text: line, kind: undefined, isFaulty: false }];
   }
   const { offset, text, fault } = condition;
-  const found = tokens(text).tokens;
+  const all = tokens(text).tokens;
+  const found = all.length > MOST_TOKENS ? [] : all;
   // A fault that has no text, as at the end, is shown at the place before it.
   const from = fault && Math.min(fault.start, Math.max(text.length - 1, 0));
   const to = fault && Math.max(fault.end, from + 1);

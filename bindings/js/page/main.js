@@ -30,13 +30,14 @@ function numbersOf(condition) {
 
 /** Reads the text. While a line is faulty, its last condition is shown. */
 function readText() {
-  const text = field.value.slice(0, MOST_UNITS);
+  // UTF-8 has no lone surrogate, which may have been pasted.
+  const text = field.value.slice(0, MOST_UNITS).toWellFormed();
   const { lines, conditions, isWhole } = reader.read(text);
   shown.lines = lines;
   shown.all = conditions;
   shown.conditions = conditions.map((one) => one.shown).filter((one) => one !== undefined);
   const limits = `${counted(MOST_CONDITIONS, "condition")} and ${MOST_UNITS} characters`;
-  setText(byId("limit"), isWhole && text === field.value ? "" :
+  setText(byId("limit"), isWhole && text.length === field.value.length ? "" :
     `Only the first ${limits} are read.`);
 }
 

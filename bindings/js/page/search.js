@@ -8,6 +8,8 @@ import { utf8Of } from "../src/text.js";
 
 // What a try takes, beside a unit for each step and each predicate.
 const TRY = 60;
+// How many answers are left out, of those that a value may not need.
+const MOST_LEFT_OUT = 16;
 
 /** What searches may yet spend. */
 export class Budget {
@@ -62,7 +64,8 @@ class Search {
     if (this.found.size === 2) {
       return;
     }
-    if (!this.#budget.spend(this.#cost)) {
+    // The first try may take what is not there: without it nothing would be known.
+    if (!this.#budget.spend(this.#cost) && at > 0) {
       this.isWhole = false;
       return;
     }
@@ -80,16 +83,10 @@ class Search {
   /** Tries both answers to a repeated predicate. */
   #split(at) {
     for (const answer of [FALSE, TRUE]) {
-      this.#put(this.#repeated[at], answer);
+      put(this.#known, this.#repeated[at], answer);
       this.explore(at + 1);
     }
-    this.#put(this.#repeated[at], UNKNOWN);
-  }
-
-  #put(places, answer) {
-    for (const place of places) {
-      this.#known[place] = answer;
-    }
+    put(this.#known, this.#repeated[at], UNKNOWN);
   }
 
   /** Keeps the fillings of the engine that give equal predicates equal answers. */
@@ -103,12 +100,33 @@ class Search {
     });
   }
 
-  /** Keeps the first answers that lead to a value. Those that are still unknown do not matter. */
+  /** Keeps the first answers that lead to a value. Those that are unknown do not matter. */
   #keep(value, numbers) {
-    if (!this.found.has(value)) {
-      const answers = [...this.#places].map(([text, [place]]) => [text, valueOf(numbers[place])]);
-      this.found.set(value, new Map(answers));
+    if (this.found.has(value)) {
+      return;
     }
+    const known = Uint8Array.from(numbers);
+    for (const places of [...this.#places.values()].slice(0, MOST_LEFT_OUT)) {
+      this.#leaveOut(places, value, known);
+    }
+    const answers = [...this.#places].map(([text, [place]]) => [text, valueOf(known[place])]);
+    this.found.set(value, new Map(answers));
+  }
+
+  /** Leaves out the answer to a predicate if a value stays without it. */
+  #leaveOut(places, value, known) {
+    const before = known[places[0]];
+    put(known, places, UNKNOWN);
+    if (!this.#budget.spend(this.#cost) || engine.apply(this.#steps, known) !== value) {
+      put(known, places, before);
+    }
+  }
+}
+
+/** Puts an answer at some places. */
+function put(numbers, places, answer) {
+  for (const place of places) {
+    numbers[place] = answer;
   }
 }
 

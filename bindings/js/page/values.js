@@ -43,7 +43,7 @@ const answers = new Answers();
 /** Returns the predicates that some target leaves unknown, each once, in the order of the
  * conditions. / */
 export function openPredicates(conditions) {
-  const texts = [...new Set(conditions.flatMap((one) => one.texts))];
+  const texts = [...new Set(conditions.flatMap((one) => one.distinct))];
   const rows = answers.of(texts);
   return texts.filter((_, at) => rows[at].includes(UNKNOWN));
 }
@@ -60,27 +60,32 @@ export class Values {
   /** `decided` has the answers of switches by the texts of predicates. */
   constructor(condition, decided, budget) {
     this.#condition = condition;
-    this.#decided = condition.texts.map((text) => numberOf(decided.get(text)));
-    this.#rows = answers.of(condition.texts);
+    this.#decided = condition.distinct.map((text) => numberOf(decided.get(text)));
+    this.#rows = answers.of(condition.distinct);
     this.#budget = budget;
     this.numbers = TRIPLES.map((_, target) => settled(this.at(target)));
   }
 
-  /** Returns the numbers of the answers to the predicates on a target. */
-  answersAt(target) {
+  /** Returns the numbers of the answers to each predicate once, on a target. */
+  #distinctAt(target) {
     return this.#rows.map((row, at) => (
       row[target] === UNKNOWN ? this.#decided[at] : row[target]
     ));
   }
 
+  /** Returns the numbers of the answers to the predicates on a target. */
+  answersAt(target) {
+    const distinct = this.#distinctAt(target);
+    return this.#condition.numbers.map((number) => distinct[number]);
+  }
+
   /** Returns what the search finds on a target. Targets with equal answers have one result. */
   at(target) {
-    const numbers = this.answersAt(target);
-    const key = numbers.join("");
-    if (!this.#found.has(key)) {
-      this.#found.set(key, search(this.#condition, numbers, this.#budget));
-    }
-    return this.#found.get(key);
+    const key = this.#distinctAt(target).join("");
+    const found = this.#found.get(key) ??
+      search(this.#condition, this.answersAt(target), this.#budget);
+    this.#found.set(key, found);
+    return found;
   }
 
   /** Returns whether all answers were tried on all targets. */
@@ -91,7 +96,7 @@ export class Values {
 
 /** Returns the values of conditions, in their order. Their searches share a budget. */
 export function valuesOf(conditions, decided) {
-  answers.of(conditions.flatMap((one) => one.texts));
+  answers.of(conditions.flatMap((one) => one.distinct));
   let left = BUDGET;
   return conditions.map((one, at) => {
     const share = new Budget(left / (conditions.length - at));
