@@ -1,23 +1,28 @@
 """What stands in each archive of a release, by paths in the archive."""
 import os
 import sys
-from typing import Dict
+from typing import Dict, NamedTuple, Tuple
 
 from packing import File
 from pages import named, reached, relinked
 from repository import (
-    BUILT, ROOT, STAMP, output_of, project, project_list, read, tracked, version,
+    BUILT, ROOT, STAMP, output_of, project, project_list, read, soname, tracked, version,
+)
+from stamp import PLATFORMS as LIBRARIES
+from targets import (
+    ARM_LINUX, ARM_MAC, ELF, FAMILIES, PLATFORMS, WASM_32, WINDOWS_GNU, X86_LINUX, X86_MAC, Platform,
 )
 
 Files = Dict[str, File]
 
 LICENSES = ("LICENSE-APACHE", "LICENSE-MIT", "LICENSES/LicenseRef-cfgx-kit.txt", "NOTICE")
 
-# The first pages of the archives for C, Rust and Python.
+# The first pages of the archives for C, Rust, Python and JavaScript.
 README = "README.md"
 RUST_README = "bindings/rust/README.md"
 PYTHON_README = "bindings/python/README.md"
-# Where the archive for Rust has the page whose place its own README takes.
+JAVASCRIPT_README = "bindings/js/README.md"
+# Where the archives for Rust and JavaScript have the page whose place its own README takes.
 MOVED = "docs/CFGX.md"
 # Where pip puts the pages of a wheel, below the folder of the environment.
 DOCUMENTS = "share/doc/cfgx"
@@ -31,6 +36,9 @@ MADE = {
     "share/zsh/site-functions/_cfgx-deps": ("completion", "zsh"),
 }
 
+# What makes the page.
+PAGE_MAKER = ("-B", "bindings/js/page/make")
+
 # The file for pkg-config leads from its own folder to the others.
 PC = "lib/pkgconfig/cfgx.pc"
 RELATIVE = "prefix=${pcfiledir}/../..\n"
@@ -38,8 +46,32 @@ RELATIVE = "prefix=${pcfiledir}/../..\n"
 # The commands of the package.
 SCRIPTS = ("cargo-cfgx-deps", "cfgx-deps")
 
-# The systems that the wheel is for: the same ones by a new name and by one for an older pip.
-PLATFORMS = ("manylinux_2_17_x86_64", "manylinux2014_x86_64")
+
+class Wheel(NamedTuple):
+    """A wheel: the systems that it is for, and the platform whose library it has. Several names of
+    one system are a new one and one for an older pip."""
+    systems: Tuple[str, ...]
+    platform: Platform
+
+    def name(self) -> str:
+        """Returns the name of its file."""
+        return f"cfgx-{version()}-py3-none-{'.'.join(self.systems)}.whl"
+
+    def library(self) -> str:
+        """Returns the name of its library, by which the package looks for it."""
+        return soname() if self.platform.form == ELF else self.platform.shared
+
+
+# Linux has two C libraries, and both load the same library.
+WHEELS = (
+    Wheel(("manylinux_2_17_x86_64", "manylinux2014_x86_64"), X86_LINUX),
+    Wheel(("manylinux_2_17_aarch64", "manylinux2014_aarch64"), ARM_LINUX),
+    Wheel(("musllinux_1_1_x86_64",), X86_LINUX),
+    Wheel(("musllinux_1_1_aarch64",), ARM_LINUX),
+    Wheel(("win_amd64",), WINDOWS_GNU),
+    Wheel(("macosx_11_0_x86_64",), X86_MAC),
+    Wheel(("macosx_11_0_arm64",), ARM_MAC),
+)
 METADATA = """Metadata-Version: 2.4
 Name: {name}
 Version: {version}
@@ -50,10 +82,11 @@ License-Expression: {license}
 {licenses}{classifiers}Requires-Python: {python}
 Description-Content-Type: text/markdown
 
-This wheel has the library inside, and pip installs it without `setuptools`. It is for Linux on
-x86-64-v2, so for a processor with SSE4.2, and for glibc 2.17 or later. pip puts the pages into the
-folder `{documents}` of the environment, the manual page of `cfgx-deps` into `share/man`, and
-what bash, fish and zsh complete its words by into the folders below `share` where they look for it.
+This wheel has the library inside, and pip installs it without `setuptools`. A release has one for
+each system, which the end of its name says. They differ in the library alone. pip puts the pages
+into the folder `{documents}` of the environment, the manual page of `cfgx-deps` into `share/man`,
+and what bash, fish and zsh complete its words by into the folders below `share` where they look for
+it.
 
 {description}"""
 WHEEL = "Wheel-Version: 1.0\nGenerator: release/make of cfgx\nRoot-Is-Purelib: false\n"
@@ -95,27 +128,94 @@ def installed() -> Files:
     return files
 
 
-def c_files() -> Files:
-    """Returns the files of the archive for C."""
+def library(platform: Platform, name: str) -> File:
+    """Returns a file of the libraries of a platform."""
+    path = f"{LIBRARIES}/{platform.triple}/{name}"
+    return File(read(path), os.access(os.path.join(ROOT, path), os.X_OK))
+
+
+def linux_files(platform: Platform) -> Files:
+    """Returns the libraries for Linux and the program, by the paths that `crates/cfgx_c/install`
+    gives them."""
+    whole = f"libcfgx.so.{version()}"
+    return {
+        f"bin/{platform.program}": library(platform, platform.program),
+        f"lib/{platform.archive}": library(platform, platform.archive),
+        f"lib/{whole}": library(platform, soname()),
+        f"lib/{soname()}": File(b"", link=whole),
+        f"lib/{platform.shared}": File(b"", link=soname()),
+    }
+
+
+def other_files(platform: Platform) -> Files:
+    """Returns the libraries for a platform that is not Linux, and the program if there is one.
+    Windows looks for a library beside a program."""
+    files = {}
+    for name in platform.files:
+        folder = "bin" if name.endswith((".dll", ".exe")) else "lib"
+        files[f"{folder}/{name}"] = library(platform, name)
+    if platform.program:
+        files["LICENSES/mingw-w64.txt"] = library(platform, "mingw-w64.txt")
+    return files
+
+
+def libraries(family: str) -> Files:
+    """Returns what stands in the archive for C of a family of platforms because of its platforms:
+    libraries, and the program with its manual page."""
+    if FAMILIES[family] == (X86_LINUX,):
+        return installed()
+    files = {}
+    for platform in FAMILIES[family]:
+        made = linux_files(platform) if platform.form == ELF else other_files(platform)
+        files.update(made)
+    has_program = any(path.startswith("bin/cfgx") and path[-4:] != ".dll" for path in files)
+    shared = {path: file for path, file in installed().items()
+              if path == PC or path.startswith(("include/", "share/man/man3/"))
+              or (has_program and path.startswith("share/man/man1/"))}
+    return {**files, **shared}
+
+
+def c_files(family: str) -> Files:
+    """Returns the files of the archive for C of a family of platforms."""
     sources = [path for path in tracked("crates/cfgx_c/examples") if path.endswith((".c", ".h"))]
     examples = {f"examples/{os.path.basename(path)}": File(read(path)) for path in sources}
-    return {**installed(), **licenses(), **pages(README, {}), **examples}
+    return {**libraries(family), **licenses(), **pages(README, {}), **examples}
 
 
 def rust_files() -> Files:
-    """Returns the files of the archive for Rust: the crate `cfgx`, with the library inside, and in
-    its folder the package `cfg-expr`. Each of both packages has the licences."""
+    """Returns the files of the archive for Rust: the crate `cfgx`, with the library for each
+    platform inside, and in its folder the package `cfg-expr`. Each of both packages has the
+    licences."""
     top = "bindings/rust/"
     parts = ("Cargo.toml", "LICENSES", "build.rs", "src", "cfg-expr")
     sources = tracked(*(top + path for path in parts))
     sources = [path for path in sources if not path.endswith(".gitignore")]
     code = {path[len(top):]: File(read(path)) for path in sources}
-    library = {"lib/libcfgx.a": File(read(f"{BUILT}/lib/libcfgx.a"))}
+    libraries = {
+        f"lib/{platform.triple}/{platform.archive}": library(platform, platform.archive)
+        for platform in PLATFORMS if platform.archive
+    }
     told = pages(RUST_README, {RUST_README: README, README: MOVED})
-    return {**code, **library, **licenses(), **licenses("cfg-expr/"), **told}
+    return {**code, **libraries, **licenses(), **licenses("cfg-expr/"), **told}
 
 
-def information() -> Files:
+def javascript_files() -> Files:
+    """Returns the files of the package for JavaScript, with the module inside, as `npm` unpacks
+    them."""
+    top = "bindings/js/"
+    code = {path[len(top):]: File(read(path)) for path in tracked(top + "package.json", top + "src")}
+    module = {f"src/{WASM_32.shared}": library(WASM_32, WASM_32.shared)._replace(is_program=False)}
+    told = pages(JAVASCRIPT_README, {JAVASCRIPT_README: README, README: MOVED})
+    files = {**code, **module, **licenses(), **told}
+    return {f"package/{path}": file for path, file in files.items()}
+
+
+def page() -> bytes:
+    """Returns the page that shows where a condition is true, with the module inside."""
+    return output_of(sys.executable, *PAGE_MAKER).encode()
+
+
+def information(wheel: Wheel) -> Files:
     """Returns what a wheel says of the package, by paths in the folder `.dist-info`."""
     fields = {
         "name": "name", "summary": "description", "license": "license", "author": "authors",
@@ -132,7 +232,7 @@ def information() -> Files:
     scripts = "".join(f"{name} = {project(name)[0]}\n" for name in SCRIPTS)
     texts = {
         "METADATA": metadata,
-        "WHEEL": WHEEL + "".join(f"Tag: py3-none-{platform}\n" for platform in PLATFORMS),
+        "WHEEL": WHEEL + "".join(f"Tag: py3-none-{system}\n" for system in wheel.systems),
         "entry_points.txt": f"[console_scripts]\n{scripts}",
     }
     return {**{path: File(text.encode()) for path, text in texts.items()}, **licenses("licenses/")}
@@ -148,13 +248,13 @@ def documents() -> Files:
     return {f"data/{path}": file for path, file in {**told, **made}.items()}
 
 
-def python_files(named_version: str) -> Files:
-    """Returns the files of the wheel but for its record. `named_version` begins the names of the
+def python_files(named_version: str, wheel: Wheel) -> Files:
+    """Returns the files of a wheel but for its record. `named_version` begins the names of the
     folders `.dist-info` and `.data`."""
     top = "bindings/python/src/"
     code = {path[len(top):]: File(read(path)) for path in tracked(top)}
-    name = "libcfgx.so." + version().rsplit(".", 1)[0]
-    library = {f"cfgx/{name}": File(read(f"{BUILT}/lib/{name}"), is_program=True)}
-    told = {f"{named_version}.dist-info/{path}": file for path, file in information().items()}
+    name = wheel.library()
+    own = {f"cfgx/{name}": library(wheel.platform, name)._replace(is_program=True)}
+    told = {f"{named_version}.dist-info/{path}": file for path, file in information(wheel).items()}
     data = {f"{named_version}.data/{path}": file for path, file in documents().items()}
-    return {**code, **library, **told, **data}
+    return {**code, **own, **told, **data}

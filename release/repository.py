@@ -1,5 +1,6 @@
 """What is asked of the repository, of its commit, and of the kit that built it."""
 import functools
+import json
 import os
 import re
 import subprocess
@@ -59,6 +60,17 @@ def version() -> str:
     return ".".join(numbers)
 
 
+def soname() -> str:
+    """Returns the name by which the loader of Linux finds the shared object: it has the first two
+    numbers of the version."""
+    return "libcfgx.so." + version().rsplit(".", 1)[0]
+
+
+def first_line(tool: str) -> str:
+    """Returns the first line of what a tool prints of its version. Raises `ToolError`."""
+    return output_of(tool, "--version").split("\n")[0]
+
+
 def project(name: str) -> List[str]:
     """Returns what stands in quotes in the line of this name in the project of the package."""
     line, = re.findall(rf"^{name} = (.*)$", read_text(PROJECT), re.M)
@@ -77,6 +89,12 @@ def rust_field(manifest: str, name: str) -> str:
     text = read_text(f"bindings/rust/{manifest}")
     found, = re.findall(rf'^{name} = "(.*)"$', text, re.M)
     return found
+
+
+def node_version() -> str:
+    """Returns the least version of Node that the package for JavaScript needs."""
+    package = json.loads(read_text("bindings/js/package.json"))
+    return str(package["engines"]["node"]).lstrip(">=")
 
 
 def commit() -> Commit:

@@ -1,7 +1,8 @@
-"""The stamp of `out/cfgx`, which says of what sources and by which kit it was built."""
+"""The stamps of `out/cfgx` and of `out/platforms`, which say of what sources and by which kit the
+files there were built."""
 import functools
 import os
-from typing import Dict
+from typing import Dict, List
 
 import repository
 from packing import sum_of
@@ -9,7 +10,12 @@ from repository import BUILT, ROOT, STAMP, ToolError, read
 
 # What the stamp says of the kit, by the names under which `repository.kit` has it.
 KIT = {"version": "kit", "archive": "archive", "commit": "commit", "compiler": "compiler"}
-AGAIN = f"run crates/cfgx_c/install {BUILT}"
+# Where `release/platforms` puts the libraries for all platforms, and its stamp there.
+PLATFORMS = "out/platforms"
+PLATFORMS_STAMP = "stamp"
+# How each folder is filled anew.
+AGAIN = {BUILT: f"run crates/cfgx_c/install {BUILT}", PLATFORMS: "run release/platforms"}
+STAMPS = {BUILT: STAMP, PLATFORMS: PLATFORMS_STAMP}
 
 
 @functools.lru_cache(maxsize=None)
@@ -18,35 +24,57 @@ def sources() -> str:
     return repository.output_of(repository.STAMPER, "sources").strip()
 
 
-def files_here() -> Dict[str, str]:
-    """Returns the files in `out/cfgx` but for the stamp, by their paths there, as the stamp has
-    them: with their sum, or where a link leads."""
-    found, top = {}, os.path.join(ROOT, BUILT)
-    for folder, _, names in os.walk(top):
-        for path in (os.path.join(folder, name) for name in names):
+def files_in(folder: str, stamp: str) -> Dict[str, str]:
+    """Returns the files in a folder but for its stamp, by their paths there, as a stamp has them:
+    with their sum, or where a link leads."""
+    found, top = {}, os.path.join(ROOT, folder)
+    for place, _, names in os.walk(top):
+        for path in (os.path.join(place, name) for name in names):
             is_link = os.path.islink(path)
             told = f"link {os.readlink(path)}" if is_link else sum_of(read(path))
             found[os.path.relpath(path, top)] = told
-    found.pop(STAMP, None)
+    found.pop(stamp, None)
     return found
 
 
-def check() -> None:
-    """Raises `ToolError` unless `out/cfgx` has the files of one installation, as they were built of
-    the sources that stand here by the kit on the path."""
+def lines_of(folder: str) -> List[str]:
+    """Returns the lines of the stamp of a folder. Raises `ToolError` if it has none."""
     try:
-        lines = repository.read_text(f"{BUILT}/{STAMP}").splitlines()
+        return repository.read_text(f"{folder}/{STAMPS[folder]}").splitlines()
     except FileNotFoundError as error:
-        raise ToolError(f"{BUILT} has no stamp: {AGAIN}") from error
+        raise ToolError(f"{folder} has no stamp: {AGAIN[folder]}") from error
+
+
+def check(folder: str = BUILT) -> None:
+    """Raises `ToolError` unless the folder has the files of one installation, as they were built of
+    the sources that stand here by the kit on the path."""
+    lines, again = lines_of(folder), AGAIN[folder]
     installed = dict(line.split("  ", 1)[::-1] for line in lines if "  " in line)
     told = dict(line.split(" ", 1) for line in lines if " " in line and "  " not in line)
     kit = repository.kit()
     if told.get("sources") != sources():
-        raise ToolError(f"{BUILT} was not built of the sources that stand here: {AGAIN}")
+        raise ToolError(f"{folder} was not built of the sources that stand here: {again}")
     if any(told.get(name) != kit.get(field) for field, name in KIT.items()):
-        raise ToolError(f"{BUILT} was built by another kit: {AGAIN}")
-    found = files_here()
+        raise ToolError(f"{folder} was built by another kit: {again}")
+    found = files_in(folder, STAMPS[folder])
     paths = sorted({*found, *installed})
     wrong = [path for path in paths if found.get(path) != installed.get(path)]
     if wrong:
-        raise ToolError(f"{BUILT}/{wrong[0]} is not as it was installed: {AGAIN}")
+        raise ToolError(f"{folder}/{wrong[0]} is not as it was installed: {again}")
+
+
+def write(folder: str, told: List[str]) -> None:
+    """Writes the stamp of a folder of libraries: what that of `out/cfgx` says of sources and the
+    kit, these lines, and a line for each file."""
+    built = [line for line in lines_of(BUILT) if "  " not in line]
+    files = [f"{sum_or_link}  {path}"
+             for path, sum_or_link in sorted(files_in(folder, PLATFORMS_STAMP).items())]
+    with open(os.path.join(folder, PLATFORMS_STAMP), "w", encoding="utf-8") as file:
+        file.write("".join(f"{line}\n" for line in [*built, *told, *files]))
+
+
+def told_of(what: str) -> Dict[str, str]:
+    """Returns what the stamp of the libraries for all platforms says of `checked`, `frame` or
+    `tool`, by the name behind that word."""
+    lines = [line.split(" ", 2) for line in lines_of(PLATFORMS) if "  " not in line]
+    return {words[1]: words[2] for words in lines if words[0] == what}

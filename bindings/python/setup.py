@@ -1,9 +1,11 @@
 """Puts the library into the wheel, and names the system for which the wheel then is. Without the
 library there is no wheel: it would be for each system, and run on none."""
+import ast
 import ctypes
 import os
 import re
 import shutil
+import sys
 
 from setuptools import Distribution, setup
 from setuptools.command.build_py import build_py
@@ -27,7 +29,14 @@ def numbers():
     return [int(number) for number in found.groups()]
 
 
-NAME = "libcfgx.so.{}.{}".format(*numbers())
+def name():
+    """Returns the name of the library on this system, by which the package looks for it."""
+    with open(os.path.join(PACKAGE, "_library.py"), encoding="utf-8") as file:
+        found = re.search(r"^NAMES = (\{.*\})$", file.read(), re.M)
+    return ast.literal_eval(found[1]).get(sys.platform, "libcfgx.so.{}.{}".format(*numbers()))
+
+
+NAME = name()
 
 
 def library():

@@ -17,6 +17,42 @@ SONAME = "libcfgx.so." + VERSION.rsplit(".", 1)[0]
 C = f"cfgx-{VERSION}-x86_64-linux"
 RUST = f"cfgx-rust-{VERSION}"
 WHEEL = f"cfgx-{VERSION}-py3-none-manylinux_2_17_x86_64.manylinux2014_x86_64.whl"
+
+# The package for JavaScript, and the page.
+PACKAGE = f"cfgx-{VERSION}.tgz"
+HTML = "cfgx.html"
+
+# The archives for C for other platforms: the end of the name, and the folders of `out/platforms`
+# from which the libraries are.
+FAMILIES = (
+    ("aarch64-linux", ("aarch64-unknown-linux-gnu",)),
+    ("x86_64-windows", ("x86_64-pc-windows-gnu", "x86_64-pc-windows-msvc")),
+    ("x86_64-macos", ("x86_64-apple-darwin",)),
+    ("aarch64-macos", ("aarch64-apple-darwin",)),
+)
+
+# The archives that the crate has: the folder, the file, and what it is for.
+ARCHIVES = (
+    ("x86_64-unknown-linux-gnu", "libcfgx.a", "Linux x86_64"),
+    ("aarch64-unknown-linux-gnu", "libcfgx.a", "Linux arm64"),
+    ("x86_64-pc-windows-gnu", "libcfgx.a", "Windows x86_64"),
+    ("x86_64-pc-windows-msvc", "cfgx.lib", "Windows x86_64"),
+    ("x86_64-apple-darwin", "libcfgx.a", "macOS x86_64"),
+    ("aarch64-apple-darwin", "libcfgx.a", "macOS arm64"),
+)
+# The wheels: the systems in their names, the library, the folder of `out/platforms` from which it
+# is, and what it is for.
+WHEELS = (
+    ("manylinux_2_17_x86_64.manylinux2014_x86_64", SONAME, "x86_64-unknown-linux-gnu",
+     "Linux x86_64"),
+    ("manylinux_2_17_aarch64.manylinux2014_aarch64", SONAME, "aarch64-unknown-linux-gnu",
+     "Linux arm64"),
+    ("musllinux_1_1_x86_64", SONAME, "x86_64-unknown-linux-gnu", "Linux x86_64"),
+    ("musllinux_1_1_aarch64", SONAME, "aarch64-unknown-linux-gnu", "Linux arm64"),
+    ("win_amd64", "cfgx.dll", "x86_64-pc-windows-gnu", "Windows x86_64"),
+    ("macosx_11_0_x86_64", "libcfgx.dylib", "x86_64-apple-darwin", "macOS x86_64"),
+    ("macosx_11_0_arm64", "libcfgx.dylib", "aarch64-apple-darwin", "macOS arm64"),
+)
 # The folders of the wheel for what it says of itself, and for what pip puts into the environment.
 INFORMATION = f"cfgx-{VERSION}.dist-info"
 DATA = f"cfgx-{VERSION}.data"
@@ -31,15 +67,30 @@ def path_of(name):
     return os.path.join(FOLDER, name)
 
 
-def files_of(name):
-    """Returns the bytes of the files of an archive for C or Rust, by their paths."""
-    with tarfile.open(path_of(f"{name}.tar.gz")) as archive:
+def files_in(name):
+    """Returns the bytes of the files of an archive for C, Rust or JavaScript, by their paths."""
+    with tarfile.open(path_of(name)) as archive:
         return {one.name: archive.extractfile(one).read() for one in archive if one.isfile()}
 
 
-def files_of_wheel():
-    """Returns the bytes of the files of the wheel, by their paths."""
-    with zipfile.ZipFile(path_of(WHEEL)) as archive:
+def files_of(name):
+    """Returns the bytes of the files of an archive for C or Rust, whose ending is left out."""
+    return files_in(f"{name}.tar.gz")
+
+
+def c_for(family):
+    """Returns the name of the archive for C for other platforms, without its ending."""
+    return f"cfgx-{VERSION}-{family}"
+
+
+def wheel_for(systems):
+    """Returns the name of the wheel for some systems."""
+    return f"cfgx-{VERSION}-py3-none-{systems}.whl"
+
+
+def files_of_wheel(name=WHEEL):
+    """Returns the bytes of the files of a wheel, by their paths."""
+    with zipfile.ZipFile(path_of(name)) as archive:
         return {name: archive.read(name) for name in archive.namelist()}
 
 

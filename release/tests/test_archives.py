@@ -9,8 +9,8 @@ import unittest
 import zipfile
 
 from . import (
-    C, DATA, INFORMATION, LICENSE, LICENSES, RUST, SONAME, VERSION, WHEEL,
-    files_of, files_of_wheel, path_of,
+    ARCHIVES, C, DATA, INFORMATION, LICENSE, LICENSES, RUST, SONAME, VERSION, WHEEL,
+    files_of, files_of_wheel, machines, path_of,
 )
 
 import repository
@@ -31,6 +31,8 @@ METADATA_FIELDS = (
     ("Keywords", ["cargo,cfg,dependencies,platform,target"]),
 )
 
+# The platform of this machine.
+HERE = "x86_64-unknown-linux-gnu"
 # The manual page of the command, and what shells read to complete its words: bash as its package
 # `bash-completion` says, fish in a folder for vendors, and zsh where `fpath` has its functions.
 MANUAL = f"{DATA}/data/share/man/man1/cfgx-deps.1"
@@ -90,7 +92,8 @@ class Archives(unittest.TestCase):
         code = [path[len(top):] for path in repository.tracked(
             *(top + path for path in ("src", "cfg-expr", "Cargo.toml", "build.rs"))
         )]
-        rust = [path for path in code if ".gitignore" not in path] + ["lib/libcfgx.a"]
+        rust = [path for path in code if ".gitignore" not in path]
+        rust += [f"lib/{folder}/{name}" for folder, name, _ in ARCHIVES]
         for name, wanted in ((C, c), (RUST, rust)):
             found = {path[len(name) + 1:] for path in files_of(name)}
             others = {path for path in found
@@ -116,9 +119,16 @@ class Archives(unittest.TestCase):
         with zipfile.ZipFile(path_of(WHEEL)) as archive:
             inside = archive.read(f"cfgx/{SONAME}")
         self.assertEqual(inside, repository.read(f"out/cfgx/lib/libcfgx.so.{VERSION}"))
-        for name in (C, RUST):
-            found = files_of(name)[f"{name}/lib/libcfgx.a"]
-            self.assertEqual(found, repository.read("out/cfgx/lib/libcfgx.a"))
+        found = files_of(C)[f"{C}/lib/libcfgx.a"], files_of(RUST)[f"{RUST}/lib/{HERE}/libcfgx.a"]
+        self.assertEqual({*found}, {repository.read("out/cfgx/lib/libcfgx.a")})
+
+    def test_the_archives_of_the_crate(self):
+        """Each is for the platform after which its folder is named."""
+        files = files_of(RUST)
+        for folder, name, machine in ARCHIVES:
+            data = files[f"{RUST}/lib/{folder}/{name}"]
+            self.assertEqual(data, repository.read(f"out/platforms/{folder}/{name}"))
+            self.assertEqual(machines.machine_of(data), machine, folder)
 
 
 class Licenses(unittest.TestCase):
@@ -164,7 +174,7 @@ class Licenses(unittest.TestCase):
 
 
 class Wheel(unittest.TestCase):
-    """The wheel for Python."""
+    """The wheel for Python on this machine. The others have tests of their own."""
 
     def setUp(self):
         self.archive = zipfile.ZipFile(path_of(WHEEL))

@@ -11,7 +11,7 @@ import tempfile
 import unittest
 import zipfile
 
-from . import RUST, SONAME, VERSION, WHEEL
+from . import RUST, SONAME, VERSION, WHEEL, WHEELS
 
 import repository
 
@@ -20,6 +20,7 @@ TOOLS = ("git", "rt", "cc", "ld")
 # What `crates/cfgx_c/stamp` needs beside these.
 OTHERS = ("bash", "cat", "dirname", "env", "find", "sed", "sha256sum", "sort", "xargs")
 STAMP = "out/cfgx/share/cfgx/stamp"
+STAMPS = {"out/cfgx": STAMP, "out/platforms": "out/platforms/stamp"}
 
 # A tool that fails, and what is said of it.
 FAILING = (
@@ -77,8 +78,8 @@ class Tools(unittest.TestCase):
 
 
 class Copy(unittest.TestCase):
-    """A clone of the repository at its commit, with a copy of `out/cfgx` whose stamp fits it. Its
-    `rt` says at once what the one on the path says."""
+    """A clone of the repository at its commit, with copies of `out/cfgx` and `out/platforms` whose
+    stamps fit it. Its `rt` says at once what the one on the path says."""
 
     @classmethod
     def setUpClass(cls):
@@ -97,9 +98,9 @@ class Copy(unittest.TestCase):
         os.chmod(file.name, 0o755)
         self.variables = {**os.environ, "PATH": tools + os.pathsep + os.environ["PATH"]}
         self.run_words("git", "clone", "-q", "--shared", repository.ROOT, self.top, cwd=room.name)
-        shutil.copytree(os.path.join(repository.ROOT, "out/cfgx"), self.path("out/cfgx"),
-                        symlinks=True)
-        self.change(STAMP, r"^sources .*$", f"sources {self.sources()}")
+        for folder, stamp in STAMPS.items():
+            shutil.copytree(os.path.join(repository.ROOT, folder), self.path(folder), symlinks=True)
+            self.change(stamp, r"^sources .*$", f"sources {self.sources()}")
 
     def run_words(self, *words, **options):
         """Returns what a command prints, which has to succeed."""
@@ -184,7 +185,7 @@ class Runs(Copy):
     def test_the_folder_by_default(self):
         first = self.made()
         run = self.run_words(self.path("release/make"), cwd="/", env=self.variables)
-        self.assertEqual(len(run.splitlines()), 5)
+        self.assertEqual(len(run.splitlines()), len(first))
         self.assertEqual(self.files_in(self.path("out/release")), first)
 
     def test_time_zone_and_words_of_the_environment(self):
@@ -236,7 +237,8 @@ class Runs(Copy):
         sums = self.run_words("sha256sum", self.path("docs/OTHER.md"))[:64]
         rows = [line[66:] for line in self.manifest() if line.startswith(sums)]
         self.assertEqual([row[row.index("/"):] for row in rows], [
-            "/docs/OTHER.md", "/data/share/doc/cfgx/docs/OTHER.md", "/docs/OTHER.md",
+            "/docs/OTHER.md", *["/data/share/doc/cfgx/docs/OTHER.md"] * len(WHEELS),
+            "/docs/OTHER.md",
         ])
 
 

@@ -8,15 +8,44 @@ import tarfile
 import unittest
 import zlib
 
-from . import C, FOLDER, RUST, SONAME, VERSION, WHEEL, files_of, files_of_wheel, path_of
+from . import (
+    ARCHIVES, C, FAMILIES, FOLDER, PACKAGE, RUST, VERSION, WHEELS, c_for, files_in, files_of_wheel,
+    path_of, wheel_for,
+)
 
 import repository
 
 # The files that have the engine inside.
-ENGINES = {
-    f"{C}/bin/cfgx", f"{C}/lib/libcfgx.a", f"{C}/lib/libcfgx.so.{VERSION}", f"cfgx/{SONAME}",
-    f"{RUST}/lib/libcfgx.a",
-}
+ENGINES = [
+    f"{C}/bin/cfgx", f"{C}/lib/libcfgx.a", f"{C}/lib/libcfgx.so.{VERSION}",
+    *(f"{c_for('aarch64-linux')}/{path}"
+      for path in ("bin/cfgx", "lib/libcfgx.a", f"lib/libcfgx.so.{VERSION}")),
+    *(f"{c_for('x86_64-windows')}/{path}"
+      for path in ("bin/cfgx.dll", "bin/cfgx.exe", "lib/cfgx.lib", "lib/libcfgx.a")),
+    *(f"{c_for(family)}/lib/{name}" for family in ("x86_64-macos", "aarch64-macos")
+      for name in ("libcfgx.a", "libcfgx.dylib")),
+    *(f"cfgx/{library}" for _, library, *_ in WHEELS),
+    *(f"{RUST}/lib/{folder}/{name}" for folder, name, _ in ARCHIVES),
+    "package/src/cfgx.wasm",
+]
+# The tools that link a library, or lower one.
+TOOLS = ("cc", "ld", "aarch64-linux-gnu-gcc", "aarch64-linux-gnu-ld", "x86_64-w64-mingw32-gcc",
+         "x86_64-w64-mingw32-ld", "wasm-ld", "wasm-opt")
+# The targets for which the crate is checked, and what is said of each platform.
+X86, ARM = "x86_64-unknown-linux-gnu", "aarch64-unknown-linux-gnu"
+PLATFORMS = [
+    (X86, X86, "this processor"),
+    (ARM, ARM, "qemu-aarch64"),
+    ("x86_64-pc-windows-gnu", X86, "wine"),
+    ("x86_64-pc-windows-msvc", X86, "not run"),
+    ("x86_64-apple-darwin", X86, "not run"),
+    ("aarch64-apple-darwin", ARM, "not run"),
+    ("wasm32-unknown-unknown", X86, "Node"),
+]
+PAGE = 4096
+# The archives in the order of the sections.
+NAMES = [f"{C}.tar.gz", *(f"{c_for(family)}.tar.gz" for family, _ in FAMILIES),
+         *(wheel_for(systems) for systems, *_ in WHEELS), f"{RUST}.tar.gz", PACKAGE]
 
 
 def printed(*words, **variables):
@@ -42,15 +71,16 @@ class Manifest(unittest.TestCase):
     """MANIFEST.txt."""
 
     def test_sections(self):
-        self.assertEqual(list(sections()[1]), [f"{C}.tar.gz", WHEEL, f"{RUST}.tar.gz"])
+        self.assertEqual(list(sections()[1]), NAMES)
 
     def test_each_section_has_the_files_of_its_archive(self):
         _, found = sections()
-        for name, files in ((f"{C}.tar.gz", files_of(C)), (WHEEL, files_of_wheel()),
-                            (f"{RUST}.tar.gz", files_of(RUST))):
+        for name in NAMES:
+            is_wheel = name.endswith(".whl")
+            files = files_of_wheel(name) if is_wheel else files_in(name)
             rows = [(f"{sum_of(data)}  {path}", path) for path, data in files.items()]
             rows = [(row + "  (engine)" if path in ENGINES else row, path) for row, path in rows]
-            if name != WHEEL:
+            if not is_wheel:
                 with tarfile.open(path_of(name)) as archive:
                     rows += [(f"{'link':64}  {one.name} -> {one.linkname}", one.name)
                              for one in archive if one.issym()]
@@ -70,7 +100,8 @@ class Manifest(unittest.TestCase):
         with open(os.path.join(os.path.dirname(printed("rt", "doc")), "WHAT"),
                   encoding="utf-8") as file:
             kit = dict(line.split() for line in file)
-        cc, ld = (printed(tool, "--version").splitlines()[0] for tool in ("cc", "ld"))
+        cc, ld, *others = (printed(tool, "--version").splitlines()[0] for tool in TOOLS)
+        lines = "".join(f"          {line}\n" for line in others)
         wanted = f"""cfgx {VERSION}
 
 commit    {printed("git", "rev-parse", "HEAD")}{changes}
@@ -80,10 +111,20 @@ kit       {printed("rt", "version")}
           commit of the kit    {kit["commit"]}
           compiler of the kit  {kit["compiler"]}
 linker    {cc}, {ld}
-packed    by Python {sys.version.split()[0]}, zlib {zlib.ZLIB_RUNTIME_VERSION}
-code      for Linux on x86-64-v2, so for a processor with SSE4.2
+others    of the libraries for other platforms, beside the clang, lld and llvm-ar of the kit:
+{lines}packed    by Python {sys.version.split()[0]}, zlib {zlib.ZLIB_RUNTIME_VERSION}
 """
         self.assertEqual(sections()[0].split("\nProved.")[0], wanted)
+
+    def test_platforms(self):
+        """Each platform has a line, which says for which target the crate was checked and what runs
+        the library, and a frame. Each of both targets has a verdict."""
+        head = sections()[0]
+        found = re.findall(r"^(\S+) +(\S+-linux-gnu) +(\S.*?)  +(\d+) bytes$", head, re.M)
+        self.assertEqual([row[:3] for row in found], PLATFORMS)
+        self.assertLess(max(int(row[3]) for row in found), 2 * PAGE)
+        verdicts = re.findall(r"^(\S+-linux-gnu)\n  logic=proved .*\btarget=(\S+)", head, re.M)
+        self.assertEqual(verdicts, [(target, target) for target in (X86, ARM)])
 
     def test_what_is_needed(self):
         texts = sections()[1]
@@ -95,7 +136,8 @@ code      for Linux on x86-64-v2, so for a processor with SSE4.2
                              repository.read_text("bindings/python/pyproject.toml"), re.M)
         for name, said in (
             (f"{C}.tar.gz", "glibc 2.34 or later, and the shared object glibc 2.17 or later."),
-            (WHEEL, f"The package for Python {python} or later,"),
+            *((wheel_for(systems), f"The package for Python {python} or later,")
+              for systems, *_ in WHEELS),
             (f"{RUST}.tar.gz", f"package `cfg-expr` {number} over it, for Rust {rust} or later."),
         ):
             self.assertIn(said, texts[name].replace("\n", " "))
@@ -106,7 +148,7 @@ class Sums(unittest.TestCase):
     """SHA256SUMS."""
 
     def test_sums(self):
-        names = sorted([f"{C}.tar.gz", WHEEL, f"{RUST}.tar.gz", "MANIFEST.txt"])
+        names = sorted([*NAMES, "MANIFEST.txt"])
         self.assertEqual(sorted(os.listdir(FOLDER)), sorted([*names, "SHA256SUMS"]))
         wanted = []
         for name in names:

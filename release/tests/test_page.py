@@ -3,7 +3,7 @@ import os
 import re
 import shlex
 
-from . import User
+from . import FOLDER, User
 
 import repository
 
@@ -32,9 +32,8 @@ def script_of(lines):
     return script
 
 
-class Page(User):
-    """Each section in a shell and a folder of its own. If the variable SHOW is set, what is printed
-    is shown too."""
+class Shown(User):
+    """The sections in a shell. If the variable SHOW is set, what is printed is shown too."""
 
     def check(self, *sections):
         """Expects that the commands of these sections print what the page shows."""
@@ -45,6 +44,10 @@ class Page(User):
         self.assertEqual(run.returncode, 0)
         if os.environ.get("SHOW"):
             print("", run.stdout, sep="\n")
+
+
+class Page(Shown):
+    """Each section in a folder of its own."""
 
     def test_c(self):
         self.need("the library of a release", "cc", "pkg-config")
@@ -65,6 +68,17 @@ class Page(User):
         self.variables["CARGO_TARGET_DIR"] = os.path.join(self.folder, "target")
         self.check("From Rust")
 
+    def test_windows(self):
+        """The C library of Windows ends each line otherwise, which is read here as a line feed."""
+        self.need("the library of a release on Windows", "x86_64-w64-mingw32-gcc",
+                  "/usr/lib/wine/wine64")
+        self.check("On Windows")
+
+    def test_musl(self):
+        self.need("the library of a release with musl", "musl-gcc", "python3")
+        self.check("With musl")
+
     def test_sums(self):
         command, = re.findall(r"`(sha256sum .*?)`", PAGE)
-        self.assertEqual(len(self.lines_of(*command.split())), 4)
+        others = {"SHA256SUMS"}
+        self.assertEqual(len(self.lines_of(*command.split())), len({*os.listdir(FOLDER)} - others))

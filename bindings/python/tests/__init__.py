@@ -1,6 +1,10 @@
 """The tests of the package. They take the library that CFGX_LIBRARY names, or else the one that
 `crates/cfgx_c/install out/cfgx` leaves in the repository, or else link the archive that `rt lib`
-leaves in crates/cfgx_c."""
+leaves in crates/cfgx_c.
+
+If CFGX_PACKAGE names a folder, into which pip put a wheel, they take the package and the library
+there. If CFGX_PYTHON has words, they start Python by these: for another processor, which this
+machine does not run by itself."""
 import atexit
 import functools
 import importlib.util
@@ -12,7 +16,9 @@ import tempfile
 import unittest
 
 HERE = os.path.dirname(os.path.abspath(__file__))
-PACKAGE = os.path.join(HERE, "..", "src")
+INSTALLED_PACKAGE = os.environ.get("CFGX_PACKAGE")
+PACKAGE = INSTALLED_PACKAGE or os.path.join(HERE, "..", "src")
+PYTHON = os.environ.get("CFGX_PYTHON", "").split() or [sys.executable]
 ROOT = os.path.abspath(os.path.join(HERE, "..", "..", ".."))
 ARCHIVE = os.path.join(ROOT, "crates", "cfgx_c", "out", "libcfgx_c.a")
 INSTALLED = os.path.join(ROOT, "out", "cfgx", "lib", "libcfgx.so")
@@ -43,6 +49,8 @@ def is_there(name):
         return sys.version_info >= (3, 11)
     if name == "Linux":
         return sys.platform == "linux"
+    if name == "limit of memory":
+        return "qemu" not in PYTHON[0]
     if name == "a builder of wheels":
         modules = ("setuptools", "wheel")
         return all(importlib.util.find_spec(one) is not None for one in modules)
@@ -67,7 +75,7 @@ def needs(*names, untested):
     return unittest.skipIf(missing, reason)
 
 
-if "CFGX_LIBRARY" not in os.environ:
+if "CFGX_LIBRARY" not in os.environ and not INSTALLED_PACKAGE:
     if os.path.exists(INSTALLED):
         os.environ["CFGX_LIBRARY"] = INSTALLED
     elif os.path.exists(ARCHIVE):

@@ -211,7 +211,7 @@ class Commands(Made):
             raise KeyboardInterrupt
 
         with unittest.mock.patch.dict("os.environ", PATH=path), \
-                unittest.mock.patch.object(_process, "read_once", interrupt), \
+                unittest.mock.patch.object(_process, "next_read", interrupt), \
                 self.assertRaises(KeyboardInterrupt):
             manifest.report(self.path)
         self.assert_ended(mark)

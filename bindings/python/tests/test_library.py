@@ -1,6 +1,5 @@
 """The library: its header, how it is found, and memory."""
 import ctypes
-import fnmatch
 import itertools
 import os
 import re
@@ -11,7 +10,7 @@ import tempfile
 import unittest
 import unittest.mock
 
-from . import HERE, PACKAGE, ROOT, needs
+from . import HERE, PACKAGE, PYTHON, ROOT, needs
 
 import cfgx
 from cfgx import _error, _library, _targets
@@ -67,7 +66,7 @@ def python(program, folder=PACKAGE, cwd=None, **variables):
     kept = {name: os.environ[name] for name in ("PATH", "LD_LIBRARY_PATH") if name in os.environ}
     variables = {**kept, "PYTHONPATH": folder, "PYTHONDONTWRITEBYTECODE": "1", **variables}
     pipe = subprocess.PIPE
-    command = [sys.executable, "-c", program]
+    command = [*PYTHON, "-c", program]
     return subprocess.run(command, env=variables, cwd=cwd, stdout=pipe, stderr=pipe)
 
 
@@ -173,10 +172,14 @@ class Finding(unittest.TestCase):
     def test_a_library_that_the_loader_finds(self):
         with tempfile.TemporaryDirectory() as folder:
             shutil.copy(_library.path_of(), os.path.join(folder, NAME))
+            # A package that was installed has the library beside itself.
+            package = os.path.join(folder, "package")
+            shutil.copytree(os.path.join(PACKAGE, "cfgx"), os.path.join(package, "cfgx"),
+                            ignore=shutil.ignore_patterns(NAME))
             program = "import cfgx; print(cfgx._library.path_of())"
             # An empty variable names no file.
             for variables in ({}, {"CFGX_LIBRARY": ""}):
-                run = python(program, LD_LIBRARY_PATH=folder, **variables)
+                run = python(program, package, LD_LIBRARY_PATH=folder, **variables)
                 self.assertEqual(run.stdout.decode(), f"{NAME}\n", run.stderr)
 
 
@@ -291,7 +294,7 @@ class Characters(unittest.TestCase):
 class Memory(unittest.TestCase):
     """What happens without memory."""
 
-    @needs("/proc/self/statm", untested="calls with little memory")
+    @needs("/proc/self/statm", "limit of memory", untested="calls with little memory")
     def test_memory_that_is_refused(self):
         # So what the parser returns to malloc goes back to the system.
         threshold = {"MALLOC_MMAP_THRESHOLD_": "100000"}
@@ -342,10 +345,10 @@ class Project(unittest.TestCase):
     """What pip is told of the package, and what it exports."""
 
     def fields(self, name):
-        """Returns what stands in quotes in a line of the project."""
+        """Returns what stands in quotes in a value of the project, a list or a line."""
         with open(PROJECT, encoding="utf-8") as file:
-            line, = re.findall(rf"^{name} = (.*)$", file.read(), re.MULTILINE)
-        return re.findall(r'"(.*?)"', line)
+            value, = re.findall(rf"^{name} = (\[[^]]*\]|.*)$", file.read(), re.MULTILINE)
+        return re.findall(r'"(.*?)"', value)
 
     def test_its_version(self):
         """The first number is that of the language, as for the calls."""
@@ -358,9 +361,9 @@ class Project(unittest.TestCase):
     def test_its_files(self):
         numbers = numbers_of("VERSION")
         self.assertEqual(NAME, f"libcfgx.so.{numbers['LANGUAGE']}.{numbers['MAJOR']}")
-        *files, library = self.fields("cfgx")
+        schemas = (f"manifest/{name}" for name in self.fields('"cfgx.manifest"'))
+        files = [*self.fields("cfgx"), *schemas]
         self.assertEqual(files, ["py.typed", _targets.NAME, "manifest/schema.json"])
-        self.assertTrue(fnmatch.fnmatch(NAME, library), library)
         for name in files:
             self.assertTrue(os.path.exists(os.path.join(PACKAGE, "cfgx", name)))
 

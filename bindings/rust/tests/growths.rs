@@ -4,6 +4,10 @@
 
 #![cfg(target_env = "gnu")]
 
+#[allow(dead_code)]
+#[path = "all/child.rs"]
+mod child;
+
 use cfgx::expr::lexer::Lexer;
 use cfgx::targets::TargetInfo;
 use cfgx::{Expression, Facts, Otherwise, Predicate, audit, audit_with};
@@ -12,7 +16,7 @@ use std::collections::BTreeSet;
 use std::env;
 use std::ffi::c_void;
 use std::os::unix::process::ExitStatusExt;
-use std::process::{Command, Output};
+use std::process::Output;
 use std::ptr::null_mut;
 
 unsafe extern "C" {
@@ -138,12 +142,9 @@ fn a_call_with_a_refused_growth() {
 
 /// Makes the call in a process of its own.
 fn output_of(name: &str, granted: usize) -> Output {
-    Command::new(env::current_exe().unwrap())
-        .args(["--exact", "a_call_with_a_refused_growth"])
-        .args(["--ignored", "--nocapture", "--test-threads=1"])
+    child::command_of("a_call_with_a_refused_growth")
         .env("CFGX_TEST_CALL", name)
         .env("CFGX_TEST_GRANTED", granted.to_string())
-        .env("RUST_BACKTRACE", "0")
         .output()
         .unwrap()
 }

@@ -117,6 +117,7 @@ int main(int count, char **word)
         return CFGX_STATUS_WRONG_USE;
     }
     expect_version();
+    word = utf8_words(word);
     size_t step_count, asked, length = strlen(word[1]);
     uint32_t status = cfgx_compile(word[1], length, NULL, 0, &step_count, NULL, 0, &asked, NULL);
     struct cfgx_step *steps = new_block(step_count, sizeof *steps);

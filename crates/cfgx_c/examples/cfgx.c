@@ -1,4 +1,4 @@
-/* The program cfgx, over the call `cfgx_run`. Needs POSIX. */
+/* The program cfgx, over the call `cfgx_run`. Needs POSIX, or on Windows MinGW-w64. */
 #include "support.h"
 
 #include <string.h>
@@ -107,6 +107,7 @@ static uint32_t status_of(struct run *run, char **word, size_t count)
 int main(int count, char **word)
 {
     expect_version();
+    word = utf8_words(word);
     struct run run = {0};
     uint32_t status = status_of(&run, word + 1, count > 0 ? (size_t)count - 1 : 0);
     free(run.words);

@@ -78,6 +78,7 @@ int main(int count, char **word)
     }
     struct answers answers = {0};
     expect_version();
+    word = utf8_words(word);
     uint32_t status = answer(word[1], word + 2, (size_t)count - 2, &answers);
     if (status == CFGX_STATUS_DONE) {
         status = decide(word[1], &answers);

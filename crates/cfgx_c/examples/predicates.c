@@ -87,6 +87,7 @@ int main(int count, char **word)
         return CFGX_STATUS_WRONG_USE;
     }
     expect_version();
+    word = utf8_words(word);
     size_t length = strlen(word[1]);
     uint32_t status = print_predicates(word[1], length);
     if (status == CFGX_STATUS_FAULTY) {

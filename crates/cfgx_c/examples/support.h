@@ -6,6 +6,12 @@
 
 #include <stdio.h>
 #include <stdlib.h>
+#ifdef _WIN32
+#include <fcntl.h>
+#include <io.h>
+#include <windows.h>
+#include <shellapi.h>
+#endif
 
 /* Prints a message and ends the program, as cfgx ends if memory is refused or a write fails. */
 static inline void fail(const char *message)
@@ -32,6 +38,38 @@ static inline void *new_block(size_t count, size_t size)
         fail("out of memory");
     }
     return block;
+}
+
+#ifdef _WIN32
+/* Returns a word in UTF-8. */
+static inline char *utf8_of(const wchar_t *wide)
+{
+    int size = WideCharToMultiByte(CP_UTF8, 0, wide, -1, NULL, 0, NULL, NULL);
+    char *word = new_block((size_t)size, 1);
+    WideCharToMultiByte(CP_UTF8, 0, wide, -1, word, size, NULL, NULL);
+    return word;
+}
+#endif
+
+/* Returns the words of `main` in UTF-8, and lets the standard streams pass on bytes as they are. Both
+ * are so but on Windows, where the words stay to the end of the program. */
+static inline char **utf8_words(char **words)
+{
+#ifdef _WIN32
+    int count;
+    wchar_t **wide = CommandLineToArgvW(GetCommandLineW(), &count);
+    if (wide == NULL) {
+        fail("out of memory");
+    }
+    words = new_block((size_t)count + 1, sizeof *words);
+    for (int i = 0; i < count; i++) {
+        words[i] = utf8_of(wide[i]);
+    }
+    for (int stream = 0; stream <= 2; stream++) {
+        _setmode(stream, _O_BINARY);
+    }
+#endif
+    return words;
 }
 
 /* Returns what a status means. */

@@ -1,25 +1,45 @@
 /* Tests CFGX_STATUS_TOO_LARGE: 2^32 texts on 2^32 targets have 2^64 values. The arrays of ends are
  * one mapping of zeros, which takes address space and hardly any memory. */
 #define _DEFAULT_SOURCE
+#ifdef _WIN32
+#include <windows.h>
+/* A macro of the tests has this name. */
+#undef TEXT
+#else
+#include <sys/mman.h>
+#endif
+
 #include "harness.h"
 
 #include <stdio.h>
 #include <stdlib.h>
-#include <sys/mman.h>
 
 #define ENDS ((size_t)1 << 32)
+
+/* Returns zeros that the system maps, or NULL if it refuses. */
+static const void *map_zeros(size_t size)
+{
+#ifdef _WIN32
+    return VirtualAlloc(NULL, size, MEM_RESERVE | MEM_COMMIT, PAGE_READONLY);
+#else
+    void *zeros = mmap(NULL, size, PROT_READ, MAP_PRIVATE | MAP_ANONYMOUS | MAP_NORESERVE, -1, 0);
+    if (zeros == MAP_FAILED) {
+        return NULL;
+    }
+    /* Large pages make the test faster. It does not need them. */
+    madvise(zeros, size, MADV_HUGEPAGE);
+    return zeros;
+#endif
+}
 
 /* Returns ENDS ends that are 0. Ends the test if the system refuses the mapping. */
 static const size_t *map_ends(void)
 {
-    size_t size = ENDS * sizeof(size_t);
-    void *ends = mmap(NULL, size, PROT_READ, MAP_PRIVATE | MAP_ANONYMOUS | MAP_NORESERVE, -1, 0);
-    if (ends == MAP_FAILED) {
-        perror("FAILED: too many values: the system refuses a mapping of 32 GiB");
+    const size_t *ends = map_zeros(ENDS * sizeof(size_t));
+    if (ends == NULL) {
+        printf("FAILED: too many values: the system refuses a mapping of 32 GiB\n");
         exit(1);
     }
-    /* Large pages make the test faster. It does not need them. */
-    madvise(ends, size, MADV_HUGEPAGE);
     return ends;
 }
 

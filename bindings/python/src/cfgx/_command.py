@@ -1,7 +1,9 @@
 """The command `cfgx-deps`."""
 import argparse
 import dataclasses
+import errno
 import gc
+import io
 import os
 import shutil
 import sys
@@ -9,7 +11,7 @@ from typing import (
     Any, Dict, Iterable, Iterator, List, NoReturn, Optional, Sequence, TextIO, Union,
 )
 
-from . import _known, __version__
+from . import __version__, _known, _process
 from ._arguments import parser_of
 from ._known import Known, KnownError
 from ._terminal import Progress, has_colours, is_terminal, shown
@@ -177,13 +179,19 @@ def write(lines: Iterable[str]) -> None:
     if sys.stdout is None:
         raise OutputError("the output is closed")
     encoding = sys.stdout.encoding or "utf-8"
+    if isinstance(sys.stdout, io.TextIOWrapper):
+        # On Windows, a line would end with a carriage return, which a reader takes for a text.
+        sys.stdout.reconfigure(newline="\n")
     try:
         for text in pieces_of(lines):
             print(text.encode(encoding, "backslashreplace").decode(encoding), flush=True)
     except OSError as error:
         abandon(sys.stdout)
-        # If the pipe is broken, whoever reads has enough.
-        if not isinstance(error, BrokenPipeError):
+        # If the pipe is broken, whoever reads has enough. Windows has another error for it.
+        is_broken = isinstance(error, BrokenPipeError) or (
+            _process.IS_WINDOWS and error.errno == errno.EINVAL
+        )
+        if not is_broken:
             raise OutputError(f"the output could not be written: {error.strerror}") from error
 
 

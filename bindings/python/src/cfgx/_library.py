@@ -6,6 +6,7 @@ import ctypes
 import itertools
 import os
 import re
+import sys
 from bisect import bisect_left
 from ctypes import POINTER, c_char_p, c_size_t, c_uint8, c_uint32
 from typing import Any, Callable, List, Optional, Sequence, Tuple, Union
@@ -15,7 +16,9 @@ from . import __version__, _processor
 # The package calls a library whose first two numbers are its own, and which has the calls below.
 LANGUAGE, MAJOR = map(int, __version__.split(".")[:2])
 MINOR = 0
-NAME = f"libcfgx.so.{LANGUAGE}.{MAJOR}"
+# The file of the library on macOS and on Windows, by the names of Python for both.
+NAMES = {"darwin": "libcfgx.dylib", "win32": "cfgx.dll"}
+NAME = NAMES.get(sys.platform, f"libcfgx.so.{LANGUAGE}.{MAJOR}")
 FOLDER = os.path.dirname(os.path.abspath(__file__))
 
 # The statuses that calls return.

@@ -1,10 +1,12 @@
 """How the package starts other programs, which are `cargo` and `rustc`."""
 import errno
 import os
-import selectors
+import queue
 import shutil
 import signal
 import subprocess
+import sys
+import threading
 import time
 from typing import List, Mapping, NamedTuple, Optional, Sequence
 
@@ -15,6 +17,10 @@ START = os.sep
 PIECE = 1 << 16
 # The longest time, in seconds, for which one call waits. The system has a limit for it.
 LONGEST = 3600.0
+# Windows has no groups of processes, and its pipes cannot be waited for together.
+IS_WINDOWS = sys.platform == "win32"
+# How the file of a program ends there. `cargo` and `rustc` are no scripts.
+PROGRAM_END = ".exe"
 
 
 class Ended(NamedTuple):
@@ -46,14 +52,15 @@ class LimitError(Exception):
 def path_to(program: str) -> str:
     """Returns the whole path of a program. A name is looked for in the folders of `PATH`, but not
     in one that is named by a relative path, such as `.` or an empty one: so nothing of the current
-    folder is found. Raises `FileNotFoundError`."""
+    folder is found, where Windows would look first. Raises `FileNotFoundError`."""
     if os.path.dirname(program):
         return os.path.abspath(program)
-    folders = os.environ.get("PATH", os.defpath).split(os.pathsep)
-    found = shutil.which(program, path=os.pathsep.join(filter(os.path.isabs, folders)))
-    if found is None:
-        raise FileNotFoundError(errno.ENOENT, os.strerror(errno.ENOENT), program)
-    return found
+    file = program + PROGRAM_END if IS_WINDOWS else program
+    for folder in filter(os.path.isabs, os.environ.get("PATH", os.defpath).split(os.pathsep)):
+        found = shutil.which(os.path.join(folder, file))
+        if found is not None:
+            return found
+    raise FileNotFoundError(errno.ENOENT, os.strerror(errno.ENOENT), program)
 
 
 def run(
@@ -61,8 +68,8 @@ def run(
 ) -> Ended:
     """Runs a program with its arguments, in the folder `START` and without an input. `variables`
     are set in its environment, beside those of this process. Whatever it started in its group of
-    processes ends with it if it exceeds a limit. Raises `OSError` if it does not start,
-    `ValueError` for a zero byte in a word, and `LimitError`."""
+    processes, or on Windows by itself, ends with it if it exceeds a limit. Raises `OSError` if it
+    does not start, `ValueError` for a zero byte in a word, and `LimitError`."""
     pipe = subprocess.PIPE
     with subprocess.Popen(
         [path_to(words[0]), *words[1:]], cwd=START, stdin=subprocess.DEVNULL, stdout=pipe,
@@ -72,7 +79,7 @@ def run(
             limit_memory(process.pid, limits.memory)
             return ended(process, limits)
         except BaseException:
-            end_group(process.pid)
+            end_all(process)
             raise
 
 
@@ -88,22 +95,41 @@ def limit_memory(process: int, most: Optional[int]) -> None:
         pass
 
 
-def end_group(process: int) -> None:
-    """Ends a process that began a group, and all others of the group."""
+def end_all(process: "subprocess.Popen[bytes]") -> None:
+    """Ends a process that began a group, and all others of the group. On Windows, it ends those
+    that the process started."""
     try:
-        os.killpg(process, signal.SIGKILL)
+        if IS_WINDOWS:
+            end_tree(process.pid)
+        else:
+            os.killpg(process.pid, signal.SIGKILL)
     except OSError:
-        # None is left.
+        # None is left, or Windows lacks its program.
         pass
+    process.kill()
+
+
+def end_tree(process: int) -> None:
+    """Ends a process and those that it started, by the program of Windows that does so. Raises
+    `OSError` if it is not there."""
+    system = os.path.join(os.environ.get("SystemRoot", "C:\\Windows"), "System32")
+    words = [os.path.join(system, "taskkill.exe"), "/F", "/T", "/PID", str(process)]
+    none = subprocess.DEVNULL
+    subprocess.run(words, stdin=none, stdout=none, stderr=none, check=False)
 
 
 def ended(process: "subprocess.Popen[bytes]", limits: Limits) -> Ended:
     """Waits for a process, and returns what it printed. Raises `LimitError`."""
     end = None if limits.seconds is None else time.monotonic() + limits.seconds
-    both = Printed(), Printed()
-    with selector_of(process, both) as streams:
-        while streams.get_map():
-            read_once(streams, left_until(end, limits), limits.output)
+    done: "queue.SimpleQueue[Printed]" = queue.SimpleQueue()
+    streams = [one.fileno() for one in (process.stdout, process.stderr) if one is not None]
+    both = [Printed(stream, limits.output, done) for stream in streams]
+    for printed in both:
+        printed.start()
+    for _ in both:
+        printed = next_read(done, end, limits)
+        printed.join()
+        expect_whole(printed)
     status = waited_for(process, end, limits)
     stdout, stderr = (b"".join(printed.pieces) for printed in both)
     return Ended(status, stdout, stderr)
@@ -118,41 +144,59 @@ def processors() -> int:
         return os.cpu_count() or 1
 
 
-class Printed:
-    """What a process printed on a stream."""
+class Printed(threading.Thread):
+    """What a process prints on a stream. A thread reads it, since no other way to read two of them
+    works on all systems. It reads to the end, or until there is too much."""
 
-    def __init__(self) -> None:
+    def __init__(
+        self, stream: int, most: Optional[int], done: "queue.SimpleQueue[Printed]"
+    ) -> None:
+        """`stream` is the number of the open file, and `most` how many bytes it may print. The
+        thread adds itself to `done` at its end."""
+        # A process that is not ended, and keeps the stream open, does not keep this one.
+        super().__init__(daemon=True)
         self.pieces: List[bytes] = []
-        self.size = 0
+        self.most = most
+        self.is_whole = True
+        self._stream, self._done = stream, done
 
-    def add(self, piece: bytes, most: Optional[int]) -> None:
-        """Adds the next piece. Raises `LimitError` if there are more than `most` bytes."""
-        self.pieces.append(piece)
-        self.size += len(piece)
-        if most is not None and self.size > most:
-            raise LimitError(f"printed more than {most} bytes")
+    def run(self) -> None:
+        """Reads."""
+        try:
+            self._read()
+        except OSError:
+            # Nobody waits for the process any more, and the stream is closed.
+            pass
+        self._done.put(self)
+
+    def _read(self) -> None:
+        """Reads. Raises `OSError`."""
+        size, piece = 0, os.read(self._stream, PIECE)
+        while piece:
+            self.pieces.append(piece)
+            size += len(piece)
+            if self.most is not None and size > self.most:
+                self.is_whole = False
+                return
+            piece = os.read(self._stream, PIECE)
 
 
-def selector_of(
-    process: "subprocess.Popen[bytes]", both: Sequence[Printed]
-) -> selectors.BaseSelector:
-    """Returns what waits for the streams of a process, and what they print is added to."""
-    made = selectors.DefaultSelector()
-    for stream, printed in zip((process.stdout, process.stderr), both):
-        if stream is not None:
-            made.register(stream, selectors.EVENT_READ, printed)
-    return made
+def expect_whole(printed: Printed) -> None:
+    """Raises `LimitError` if a process prints more on a stream than it may."""
+    if not printed.is_whole:
+        raise LimitError(f"printed more than {printed.most} bytes")
 
 
-def read_once(
-    streams: selectors.BaseSelector, seconds: Optional[float], most: Optional[int]
-) -> None:
-    """Waits until a stream has something, or for some time, and reads it."""
-    for key, _ in streams.select(seconds):
-        piece = os.read(key.fd, PIECE)
-        key.data.add(piece, most)
-        if not piece:
-            streams.unregister(key.fileobj)
+def next_read(
+    done: "queue.SimpleQueue[Printed]", end: Optional[float], limits: Limits
+) -> Printed:
+    """Waits for what is read of the next stream that ends. Raises `LimitError`."""
+    while True:
+        try:
+            return done.get(timeout=left_until(end, limits))
+        except queue.Empty:
+            # The time is looked at again.
+            continue
 
 
 def left_until(end: Optional[float], limits: Limits) -> Optional[float]:

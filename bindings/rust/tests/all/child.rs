@@ -14,9 +14,27 @@ pub fn arguments(test: &str) -> [&str; 5] {
     ]
 }
 
+/// Returns the command that runs this program: by the runner that Cargo is told of, if it is a
+/// program for another processor.
+pub fn own_program() -> Command {
+    let processor = env::consts::ARCH.to_uppercase();
+    let named = format!("CARGO_TARGET_{processor}_UNKNOWN_LINUX_GNU_RUNNER");
+    let runner = env::var(named).unwrap_or_default();
+    let program = env::current_exe().unwrap();
+    let mut words = runner.split_whitespace();
+    match words.next() {
+        Some(first) => {
+            let mut command = Command::new(first);
+            command.args(words).arg(program);
+            command
+        }
+        None => Command::new(program),
+    }
+}
+
 /// Returns the command that runs an ignored test in a process of its own.
 pub fn command_of(test: &str) -> Command {
-    let mut command = Command::new(env::current_exe().unwrap());
+    let mut command = own_program();
     command.args(arguments(test)).env("RUST_BACKTRACE", "0");
     command
 }

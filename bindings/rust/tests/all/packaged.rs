@@ -16,6 +16,9 @@ const LICENSES: [&str; 4] = [
     "NOTICE",
 ];
 
+/// Where the package has the archive for this machine.
+const PLACE: &str = "lib/x86_64-unknown-linux-gnu";
+
 /// Copies a folder.
 fn copy(from: &Path, to: &Path) {
     fs::create_dir_all(to).unwrap();
@@ -36,14 +39,14 @@ fn folder_in(room: &Path) -> PathBuf {
     let _ = fs::remove_dir_all(&folder);
     copy(&Path::new(CRATE).join("src"), &folder.join("src"));
     copy(&Path::new(CRATE).join("tests"), &folder.join("tests"));
-    for other in ["LICENSES", "lib"] {
-        fs::create_dir(folder.join(other)).unwrap();
+    for other in ["LICENSES", PLACE] {
+        fs::create_dir_all(folder.join(other)).unwrap();
     }
     let files = ["Cargo.toml", "README.md", "build.rs"];
     for file in files.iter().chain(&LICENSES) {
         fs::copy(Path::new(CRATE).join(file), folder.join(file)).unwrap();
     }
-    fs::copy(library(), folder.join("lib/libcfgx.a")).unwrap();
+    fs::copy(library(), folder.join(PLACE).join("libcfgx.a")).unwrap();
     folder
 }
 
@@ -66,10 +69,11 @@ fn the_package_is_built_from_its_own_files() {
     let mut command = programs::cargo_on_own(&folder, &words);
     programs::succeed(command.env_remove("CFGX_LIB_DIR"));
     let unpacked = folder.join(concat!("target/package/cfgx-", env!("CARGO_PKG_VERSION")));
-    let files = ["README.md", "build.rs", "lib/libcfgx.a", "src/numbers.rs"];
+    let files = ["README.md", "build.rs", "src/numbers.rs"];
     for file in files.iter().chain(&LICENSES) {
         assert!(unpacked.join(file).is_file(), "{file}");
     }
+    assert!(unpacked.join(PLACE).join("libcfgx.a").is_file());
     assert!(!unpacked.join("tests").exists());
 
     // A build after another one does nothing.

@@ -29,8 +29,8 @@ const OWN_BUILT: &str = "repository/crates/cfgx_c/out/libcfgx_c.a";
 const OWN_BUILT_FOLDER: &str = "repository/crates/cfgx_c/out";
 
 /// Where the package has an archive.
-const PACKED: &str = "repository/bindings/rust/lib/libcfgx.a";
-const PACKED_FOLDER: &str = "repository/bindings/rust/lib";
+const PACKED: &str = "repository/bindings/rust/lib/x86_64-unknown-linux-gnu/libcfgx.a";
+const PACKED_FOLDER: &str = "repository/bindings/rust/lib/x86_64-unknown-linux-gnu";
 
 /// The rows, by the README of the crate: `CFGX_LIB_DIR`, the package, `pkg-config`, `out/cfgx/lib`
 /// and `crates/cfgx_c/out` in this order, and no other place if the first is set.
@@ -100,7 +100,10 @@ const ROWS: &[Row] = &[
     Row {
         named: None,
         programs: &["pkg-config"],
-        archives: &["known/libcfgx.a", "repository/bindings/rust/lib/libcfgx.so"],
+        archives: &[
+            "known/libcfgx.a",
+            "repository/bindings/rust/lib/x86_64-unknown-linux-gnu/libcfgx.so",
+        ],
         searched: &["known"],
         linked: &["cfgx"],
         watched: &[PACKED_FOLDER, "known/libcfgx.a"],
@@ -155,15 +158,15 @@ const ROWS: &[Row] = &[
     },
 ];
 
-/// What is linked without an archive, and for a target that the library is not for.
+/// What is linked without an archive.
 pub const NOT_FOUND: &str = "no-archive-of-cfgx-was-found-see-its-README";
-const NOT_SERVED: &str = "cfgx-is-for-x86-64-linux-alone-see-its-README";
 
 /// The variables that Cargo watches.
-const VARIABLES: [&str; 6] = [
+const VARIABLES: [&str; 7] = [
     "CFGX_LIB_DIR",
     "DOCS_RS",
     "PKG_CONFIG",
+    "PKG_CONFIG_ALLOW_CROSS",
     "PKG_CONFIG_LIBDIR",
     "PKG_CONFIG_PATH",
     "PKG_CONFIG_SYSROOT_DIR",
@@ -180,10 +183,13 @@ pub fn make_room(room: &Path, archives: &[&str]) {
     }
 }
 
-/// What Cargo tells the script of a target that the library is for.
-const SERVED: [(&str, &str); 4] = [
+/// What Cargo tells the script on x86-64 Linux of that system.
+const NATIVE: [(&str, &str); 7] = [
+    ("HOST", "x86_64-unknown-linux-gnu"),
     ("TARGET", "x86_64-unknown-linux-gnu"),
     ("CARGO_CFG_TARGET_ARCH", "x86_64"),
+    ("CARGO_CFG_TARGET_ENDIAN", "little"),
+    ("CARGO_CFG_TARGET_ENV", "gnu"),
     ("CARGO_CFG_TARGET_OS", "linux"),
     ("CARGO_CFG_TARGET_POINTER_WIDTH", "64"),
 ];
@@ -195,7 +201,7 @@ pub fn command_in(room: &Path, script: &Path, programs: &[&str]) -> Command {
     let mut command = Command::new(script);
     command
         .env_clear()
-        .envs(SERVED)
+        .envs(NATIVE)
         .env("PATH", path.unwrap())
         .env("CFGX_TEST_ROOM", room)
         .env("CARGO_MANIFEST_DIR", room.join("repository/bindings/rust"));
@@ -216,7 +222,7 @@ pub fn told<'a>(printed: &'a str, before: &str) -> Vec<&'a str> {
 }
 
 /// Returns a path without its front up to a room, and without `..`.
-fn plain(room: &Path, path: &str) -> String {
+pub fn plain(room: &Path, path: &str) -> String {
     let path = path.replace("/bindings/rust/../..", "");
     let front = format!("{}/", room.display());
     path.strip_prefix(&front).unwrap_or(&path).to_string()
@@ -283,7 +289,7 @@ fn each_archive_is_found_where_the_readme_says() {
 
 /// Panics unless the script says in one warning each of these texts, in this order, and links the
 /// archive with this name alone, which no folder has. So only a build that links fails.
-fn check_warning(command: &mut Command, name: &str, texts: &[&str]) {
+pub fn check_warning(command: &mut Command, name: &str, texts: &[&str]) {
     let printed = printed_by(command);
     let [warning] = told(&printed, "cargo::warning=")[..] else {
         panic!("no warning, or several: {printed}")
@@ -305,7 +311,11 @@ fn check_places(room: &Path, script: &Path) {
     let mut command = command_in(room, script, &["pkg-config"]);
     let known = format!("no libcfgx.a in {};", room.join("known").display());
     let how = "Run `crates/cfgx_c/install out/cfgx`";
-    let own = ["bindings/rust/lib;", "out/cfgx/lib;", "crates/cfgx_c/out."];
+    let own = [
+        "bindings/rust/lib/x86_64-unknown-linux-gnu;",
+        "out/cfgx/lib;",
+        "crates/cfgx_c/out.",
+    ];
     let places = [own[0], &known, own[1], own[2], how];
     check_warning(&mut command, NOT_FOUND, &places);
     let mut command = command_in(room, script, &[]);
@@ -337,24 +347,6 @@ fn a_warning_names_each_place_and_the_command() {
         command.env("CFGX_LIB_DIR", folder).current_dir(&room);
         let said = format!("CFGX_LIB_DIR is `{folder}`, which is no absolute path");
         check_warning(&mut command, NOT_FOUND, &[&said]);
-    }
-    for (triple, arch, system, width) in [
-        ("aarch64-unknown-linux-gnu", "aarch64", "linux", "64"),
-        ("x86_64-unknown-linux-gnux32", "x86_64", "linux", "32"),
-        ("x86_64-apple-darwin", "x86_64", "macos", "64"),
-    ] {
-        let mut command = command_in(&room, &script, &["pkg-config"]);
-        command
-            .env("TARGET", triple)
-            .env("CARGO_CFG_TARGET_ARCH", arch)
-            .env("CARGO_CFG_TARGET_OS", system)
-            .env("CARGO_CFG_TARGET_POINTER_WIDTH", width);
-        let said = format!("x86-64 Linux alone, and not for {triple}");
-        check_warning(&mut command, NOT_SERVED, &[&said]);
-        let printed = printed_by(command.env("DOCS_RS", "1"));
-        let is_told = |text| printed.contains(text);
-        assert!(!is_told("cargo::warning") && !is_told("cargo::error"));
-        assert!(!is_told("cargo::rustc-link"), "{printed}");
     }
 }
 

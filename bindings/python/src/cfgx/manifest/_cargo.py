@@ -205,7 +205,7 @@ def output_of(*words: str, seconds: float) -> str:
 def quoted(message: bytes) -> str:
     """Returns what a program printed, in indented lines. It may quote a manifest, and a line feed
     there starts no line that looks like one of the command."""
-    lines = message.decode(errors="replace").rstrip().split("\n")
+    lines = message.decode(errors="replace").rstrip().replace("\r\n", "\n").split("\n")
     return "".join(f"\n    {line}" for line in lines)
 
 

@@ -1,4 +1,5 @@
 """The platforms of a report: the host, and the targets that are named."""
+import codecs
 import dataclasses
 import io
 import os
@@ -10,6 +11,7 @@ from typing import (
 import cfgx
 
 from .. import _files, _process
+from .._facts import lines_of
 from . import _cargo, _flags
 from ._errors import CompilerError, FactsError, RequestError
 
@@ -150,8 +152,7 @@ class Compiler:
         if run.status != 0:
             message = _cargo.quoted(run.stderr)
             raise CompilerError(f"{self._program} refuses {' '.join(words)}:{message}")
-        lines = run.stdout.decode(errors="replace").split("\n")
-        return [line for line in lines if line]
+        return lines_of(run.stdout.decode(errors="replace"))
 
 
 Source = Union[Table, Compiler]
@@ -180,6 +181,13 @@ def facts_in(lines: Iterable[str], where: str) -> FrozenSet[str]:
     return frozenset(facts)
 
 
+def encoding_of(data: bytes) -> str:
+    """Returns the encoding of a file of facts: that of the mark with which it begins. Shells of
+    Windows write UTF-8 with a mark, or UTF-16. Without one it is UTF-8."""
+    is_wide = data.startswith((codecs.BOM_UTF16_LE, codecs.BOM_UTF16_BE))
+    return "utf-16" if is_wide else "utf-8-sig"
+
+
 def read_facts(path: str) -> Tuple[str, List[str]]:
     """Returns the triple that the name of a file of facts has, and its lines. Raises `FactsError`,
     also if it is no regular file or too large, and if a key is missing that each target has. Then
@@ -187,9 +195,9 @@ def read_facts(path: str) -> Tuple[str, List[str]]:
     name = os.path.basename(path)
     stem, end = os.path.splitext(name)
     try:
-        data = io.BytesIO(_files.bytes_of(path))
-        # A file of another system may begin with a mark that says it is UTF-8.
-        lines = io.TextIOWrapper(data, encoding="utf-8-sig").read().split("\n")
+        data = _files.bytes_of(path)
+        text = io.TextIOWrapper(io.BytesIO(data), encoding=encoding_of(data))
+        lines = text.read().split("\n")
     except UnicodeDecodeError as error:
         raise FactsError(f"{path} is not UTF-8: {error}") from error
     except OSError as error:
