@@ -4,13 +4,14 @@ import sys
 from typing import Dict, NamedTuple, Tuple
 
 from packing import File
-from pages import named, reached, relinked
+from pages import named, pictures, reached, relinked
 from repository import (
     BUILT, ROOT, STAMP, output_of, project, project_list, read, soname, tracked, version,
 )
 from stamp import PLATFORMS as LIBRARIES
 from targets import (
-    ARM_LINUX, ARM_MAC, ELF, FAMILIES, PLATFORMS, WASM_32, WINDOWS_GNU, X86_LINUX, X86_MAC, Platform,
+    ARM_LINUX, ARM_MAC, ELF, FAMILIES, PLATFORMS, WASM_32, WINDOWS_GNU, X86_LINUX, X86_MAC,
+    Platform,
 )
 
 Files = Dict[str, File]
@@ -100,15 +101,17 @@ def licenses(folder: str = "") -> Files:
 
 
 def pages(first: str, moved: Dict[str, str]) -> Files:
-    """Returns a page and all those to which its links lead, by their places in an archive: each
-    has the path that it has in the repository, or the one in `moved`. At the top of the archive
-    stand the licences."""
+    """Returns a page and all those to which its links lead, with the pictures that they show, by
+    their places in an archive: each has the path that it has in the repository, or the one in
+    `moved`. At the top of the archive stand the licences."""
     places = {page: moved.get(page, page) for page in reached(first)}
+    shown = {path: path for page in places for path in pictures(page)}
     others = {path: path for path in LICENSES}
-    return {
-        place: File(relinked(page, {**others, **places}).encode())
+    told = {
+        place: File(relinked(page, {**others, **shown, **places}).encode())
         for page, place in places.items()
     }
+    return {**told, **{path: File(read(path)) for path in shown}}
 
 
 def installed() -> Files:
@@ -204,7 +207,8 @@ def javascript_files() -> Files:
     """Returns the files of the package for JavaScript, with the module inside, as `npm` unpacks
     them."""
     top = "bindings/js/"
-    code = {path[len(top):]: File(read(path)) for path in tracked(top + "package.json", top + "src")}
+    sources = tracked(top + "package.json", top + "src")
+    code = {path[len(top):]: File(read(path)) for path in sources}
     module = {f"src/{WASM_32.shared}": library(WASM_32, WASM_32.shared)._replace(is_program=False)}
     told = pages(JAVASCRIPT_README, {JAVASCRIPT_README: README, README: MOVED})
     files = {**code, **module, **licenses(), **told}

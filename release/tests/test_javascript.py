@@ -30,7 +30,7 @@ class Package(User):
     def test_its_files(self):
         files = {path[len("package/"):]: data for path, data in files_in(PACKAGE).items()}
         code = [path[len(SOURCES):] for path in repository.tracked(SOURCES + "src")]
-        pages = [path for path in files if path.endswith(".md")]
+        pages = [path for path in files if path.endswith((".md", ".png"))]
         self.assertLessEqual({"README.md", "docs/JAVASCRIPT.md", "docs/RULES.md"}, {*pages})
         wanted = [*code, *pages, *LICENSES, "package.json", "src/cfgx.wasm"]
         self.assertEqual(sorted(files), sorted(wanted))
@@ -42,7 +42,8 @@ class Package(User):
         self.assertEqual(files["src/cfgx.wasm"], repository.read(MODULE))
         self.assertEqual(json.loads(files["package.json"])["license"], LICENSE)
 
-    def test_npm_packs_the_same_files(self):
+    def test_npm_packs_the_same_package(self):
+        """But for the pages that are not below its folder `docs`."""
         self.need("what npm packs of the package for JavaScript", "npm")
         os.mkdir(os.path.join(self.folder, "unpacked"))
         self.succeed("tar", "-xzf", PACKAGE, "-C", "unpacked")
@@ -50,7 +51,10 @@ class Package(User):
                             "--pack-destination", "unpacked")
         packed, = json.loads(told)
         found = {f"package/{one['path']}": one["size"] for one in packed["files"]}
-        wanted = {path: len(data) for path, data in files_in(PACKAGE).items()}
+        wanted = {
+            path: len(data) for path, data in files_in(PACKAGE).items()
+            if not path.endswith(".md") or path.startswith(("package/README", "package/docs/"))
+        }
         self.assertEqual(found, wanted)
 
     def test_a_program(self):

@@ -356,7 +356,7 @@ class Project(unittest.TestCase):
         self.assertRegex(cfgx.__version__, rf"^{numbers_of('VERSION')['LANGUAGE']}\.\d+\.\d+$")
         with open(os.path.join(ROOT, "CHANGELOG.md"), encoding="utf-8") as page:
             text = " ".join(page.read().split())
-        self.assertIn(f", the Python package | {cfgx.__version__} |", text)
+        self.assertIn(f", the packages for Python and JavaScript | {cfgx.__version__} |", text)
 
     def test_its_files(self):
         numbers = numbers_of("VERSION")
