@@ -49,6 +49,14 @@ function testBlocks() {
   forget(blocks[0]);
 }
 
+function testForgetting() {
+  const [first, second] = [take(40n), take(40n)];
+  take(40n);
+  forget(second);
+  expect("a block after all but the first were forgotten", take(40n), second);
+  forget(first);
+}
+
 function testRefusals() {
   const first = take(1n);
   const pages = memory.buffer.byteLength;
@@ -79,6 +87,7 @@ function testCalls() {
 }
 
 testBlocks();
+testForgetting();
 testRefusals();
 testCalls();
 testBlocks();
