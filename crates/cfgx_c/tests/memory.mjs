@@ -5,7 +5,8 @@
 import { readFileSync } from "node:fs";
 
 const { instance } = await WebAssembly.instantiate(readFileSync(process.argv[2]));
-const { memory, cfgx_take: take, cfgx_forget: forget, cfgx_check, cfgx_explain } = instance.exports;
+const { memory, cfgx_take: take, cfgx_forget: forget, cfgx_check, cfgx_explain, cfgx_run } =
+  instance.exports;
 const MOST = 2n ** 32n;
 let failures = 0;
 
@@ -34,6 +35,22 @@ function explain(text, room) {
   const told = new TextDecoder().decode(shown);
   forget(first);
   return `${status} ${told}`;
+}
+
+// Returns what `cfgx parse` prints of a text.
+function parse(text, room) {
+  const bytes = new TextEncoder().encode(`parse${text}`);
+  const first = put(bytes);
+  const [ends, output, needed] = [take(16n), take(BigInt(room)), take(8n)];
+  const view = new DataView(memory.buffer);
+  view.setBigUint64(Number(ends), 5n, true);
+  view.setBigUint64(Number(ends) + 8, BigInt(bytes.length), true);
+  cfgx_run(first, BigInt(bytes.length), ends, 2n, first, 0n, output, BigInt(room), needed);
+  const count = Number(new DataView(memory.buffer).getBigUint64(Number(needed), true));
+  const shown = new Uint8Array(memory.buffer, Number(output), count);
+  const told = new TextDecoder().decode(shown);
+  forget(first);
+  return told;
 }
 
 function testBlocks() {
@@ -80,6 +97,12 @@ function testCalls() {
   }
   expect("a memory that does not grow with calls", memory.buffer.byteLength <= before + 2 ** 20,
          true);
+  const names = Array.from({ length: 2000 }, (_, place) => `name${place}`);
+  const around = (inside, name) => `any(${inside ? `${inside}, ` : ""}${name})`;
+  const nested = names.reduceRight(around, "");
+  const lines = names.map((name) => `${name}\n`);
+  expect("the lines of a list", parse(`all(${names})`, 30000), lines.join(""));
+  expect("the lines of a nested list", parse(nested, 30000), lines.reverse().join(""));
   const long = new TextEncoder().encode(`all(${"a, ".repeat(3_000_000)})`);
   const text = put(long);
   expect("the status of a long text", cfgx_check(text, BigInt(long.length), take(48n)), 0);
