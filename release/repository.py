@@ -4,6 +4,7 @@ import json
 import os
 import re
 import subprocess
+import sys
 import time
 from typing import Dict, List, NamedTuple
 
@@ -33,12 +34,14 @@ class ToolError(Exception):
 
 
 def output_of(*words: str) -> str:
-    """Returns what a command prints at the top of the repository. Raises `ToolError`."""
+    """Returns what a command prints at the top of the repository. Raises `ToolError` if it fails,
+    and then prints that on standard error."""
     try:
         run = subprocess.run(words, cwd=ROOT, check=True, stdout=subprocess.PIPE)
     except FileNotFoundError as error:
         raise ToolError(f"there is no `{words[0]}` on the path") from error
     except subprocess.CalledProcessError as error:
+        sys.stderr.write(error.stdout.decode(errors="replace"))
         raise ToolError(f"`{' '.join(words)}` ends with status {error.returncode}") from error
     return run.stdout.decode()
 

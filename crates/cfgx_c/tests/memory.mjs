@@ -5,7 +5,8 @@
 import { readFileSync } from "node:fs";
 
 const { instance } = await WebAssembly.instantiate(readFileSync(process.argv[2]));
-const { memory, cfgx_take: take, cfgx_forget: forget, cfgx_check, cfgx_explain } = instance.exports;
+const { memory, cfgx_take: take, cfgx_forget: forget, cfgx_check, cfgx_explain, cfgx_run } =
+  instance.exports;
 const MOST = 2n ** 32n;
 let failures = 0;
 
@@ -36,6 +37,22 @@ function explain(text, room) {
   return `${status} ${told}`;
 }
 
+// Returns what `cfgx parse` prints of a text.
+function parse(text, room) {
+  const bytes = new TextEncoder().encode(`parse${text}`);
+  const first = put(bytes);
+  const [ends, output, needed] = [take(16n), take(BigInt(room)), take(8n)];
+  const view = new DataView(memory.buffer);
+  view.setBigUint64(Number(ends), 5n, true);
+  view.setBigUint64(Number(ends) + 8, BigInt(bytes.length), true);
+  cfgx_run(first, BigInt(bytes.length), ends, 2n, first, 0n, output, BigInt(room), needed);
+  const count = Number(new DataView(memory.buffer).getBigUint64(Number(needed), true));
+  const shown = new Uint8Array(memory.buffer, Number(output), count);
+  const told = new TextDecoder().decode(shown);
+  forget(first);
+  return told;
+}
+
 function testBlocks() {
   const sizes = [0n, 1n, 7n, 8n, 15n, 16n, 17n, 100n, 65536n, 200000n];
   const blocks = sizes.map((size) => take(size));
@@ -47,6 +64,14 @@ function testBlocks() {
   forget(blocks[0]);
   expect("a block after all were forgotten", take(5n), blocks[0]);
   forget(blocks[0]);
+}
+
+function testForgetting() {
+  const [first, second] = [take(40n), take(40n)];
+  take(40n);
+  forget(second);
+  expect("a block after all but the first were forgotten", take(40n), second);
+  forget(first);
 }
 
 function testRefusals() {
@@ -72,6 +97,12 @@ function testCalls() {
   }
   expect("a memory that does not grow with calls", memory.buffer.byteLength <= before + 2 ** 20,
          true);
+  const names = Array.from({ length: 2000 }, (_, place) => `name${place}`);
+  const around = (inside, name) => `any(${inside ? `${inside}, ` : ""}${name})`;
+  const nested = names.reduceRight(around, "");
+  const lines = names.map((name) => `${name}\n`);
+  expect("the lines of a list", parse(`all(${names})`, 30000), lines.join(""));
+  expect("the lines of a nested list", parse(nested, 30000), lines.reverse().join(""));
   const long = new TextEncoder().encode(`all(${"a, ".repeat(3_000_000)})`);
   const text = put(long);
   expect("the status of a long text", cfgx_check(text, BigInt(long.length), take(48n)), 0);
@@ -79,6 +110,7 @@ function testCalls() {
 }
 
 testBlocks();
+testForgetting();
 testRefusals();
 testCalls();
 testBlocks();
