@@ -51,7 +51,7 @@ def main(name, path, *settings):
     same = more = unread = lost = count = 0
     for kinds in KINDS:
         options = {"workspace": True, "kinds": kinds, "config": settings,
-                   "no_other_cfg": True}
+                   "no_other_cfg": True, "cargo_timeout": 600}
         report = manifest.resolved(path, TARGETS, **options)
         with unittest.mock.patch.object(_cargo, "package_of", with_scripts):
             scripted = manifest.resolved(path, TARGETS, **options)
