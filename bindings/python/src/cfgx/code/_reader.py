@@ -376,7 +376,10 @@ class Reading:
         """Yields what stands in a group."""
         place, end = self._start_of(group), self._end_of(group)
         while place < end:
-            _, start = attributes_from(self.skim, place, end)
+            attributes, start = attributes_from(self.skim, place, end)
+            if attributes and attributes[0].is_inner:
+                place = start
+                continue
             try:
                 thing = thing_at(self.skim, start, end)
             except TokenError:

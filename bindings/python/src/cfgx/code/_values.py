@@ -225,7 +225,9 @@ class Judged:
     def _within(self, one: Condition, never: Dict[int, int]) -> Optional[int]:
         """Returns the number of the outermost condition that never holds around another."""
         around = itertools.islice([] if one.guard is None else one.guard.all, MOST_AROUND)
-        found = (guard.number for guard in around if not guard.is_negated)
+        # A `cfg` inside of `cfg_attr` that never holds may still let its item be there.
+        found = (guard.number for guard in around
+                 if guard.text == self._code.conditions[guard.number].text)
         return next((never[number] for number in found if number in never), None)
 
     def _verdict(self, one: Condition, answer: Optional[Answer]) -> Verdict:
