@@ -36,9 +36,9 @@ def layers():
 
 
 def conditions():
-    """Returns dependencies with many conditions, of which each has its flags."""
-    flags = ", ".join(LETTERS)
-    return [f"app > a cfg(any(f{number}, {flags}))" for number in range(7_000)]
+    """Returns dependencies on 50 packages with many conditions, of which each has its flags."""
+    flags = ", ".join(LETTERS[:8])
+    return [f"app > a{number % 50} cfg(any(f{number}, {flags}))" for number in range(7_000)]
 
 
 # Graphs, and whether all answers are tried out and all ways are found.
@@ -57,7 +57,7 @@ class Graphs(Measured):
         for name, (lines, is_whole) in GRAPHS.items():
             found = json.dumps(graphs.metadata(*lines()))
             # A good part of what cargo may print.
-            self.assertTrue(_cargo.MOST_PRINTED // 16 < len(found) <= _cargo.MOST_PRINTED, name)
+            self.assertTrue(_cargo.MOST_PRINTED // 32 < len(found) <= _cargo.MOST_PRINTED, name)
             self.write("metadata.json", found)
             for words in (["--format=json"], ["--format=tsv", "--summary"]):
                 with self.subTest(name=name, words=words):
