@@ -1,7 +1,8 @@
 /** The values of conditions on all targets. */
 import { FALSE, TRUE, UNKNOWN } from "../src/answers.js";
-import { audit } from "../src/audit.js";
+import * as engine from "../src/module.js";
 import { targetFacts, targets } from "../src/targets.js";
+import { utf8OfAll } from "../src/text.js";
 import { Budget, search, settled } from "./search.js";
 
 // What the searches of one key may spend together; and how many predicates are kept.
@@ -11,6 +12,10 @@ const MOST_KEPT = 2000;
 /** The triples of all targets, and their facts. */
 export const TRIPLES = targets();
 export const FACTS = TRIPLES.map(targetFacts);
+// The same, as the engine takes them.
+const FACT_BYTES = utf8OfAll(FACTS.flat());
+let factCount = 0;
+const FACT_ENDS = FACTS.map((facts) => (factCount += facts.length));
 
 /** Returns the number of a value. */
 function numberOf(value) {
@@ -30,8 +35,10 @@ class Answers {
         this.#rows.clear();
         return this.of(texts);
       }
-      audit(missing, FACTS).forEach((row, at) => {
-        this.#rows.set(missing[at], Uint8Array.from(row, numberOf));
+      const { values } = engine.audit(utf8OfAll(missing), FACT_BYTES, FACT_ENDS, true);
+      missing.forEach((text, at) => {
+        const start = at * TRIPLES.length;
+        this.#rows.set(text, values.subarray(start, start + TRIPLES.length));
       });
     }
     return texts.map((text) => this.#rows.get(text));

@@ -77,13 +77,13 @@ class Room {
   keepList(texts) {
     const count = texts.reduce((sum, text) => sum + text.length, 0);
     const place = this.take(count);
-    const ends = [];
+    const whole = this.bytes(place, count);
     let end = 0;
-    for (const text of texts) {
-      this.bytes(place + end, text.length).set(text);
+    const ends = texts.map((text) => {
+      whole.set(text, end);
       end += text.length;
-      ends.push(end);
-    }
+      return end;
+    });
     return [place, count, this.keepSizes(ends), ends.length];
   }
 

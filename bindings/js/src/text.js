@@ -7,6 +7,9 @@ const MOST_MEMORY = 2 ** 32;
 // The distance of the bytes of which it is kept how many code units stand before them.
 const DISTANCE = 64;
 
+const encoder = new TextEncoder();
+const decoder = new TextDecoder("utf-8", { fatal: true, ignoreBOM: true });
+
 /** Returns what an error says of a value that is not what a call takes. */
 export function named(value) {
   return typeof value === "string" ? JSON.stringify(value) : describe(value);
@@ -46,7 +49,7 @@ export function utf8OfAll(texts) {
 /** Returns the bytes of a text that has no lone surrogate. */
 function encoded(text) {
   try {
-    return new TextEncoder().encode(text);
+    return encoder.encode(text);
   } catch (error) {
     // The text is longer than any array may be.
     throw error instanceof RangeError ? new OutOfMemoryError() : error;
@@ -55,8 +58,7 @@ function encoded(text) {
 
 /** Returns the text that stands from one byte up to another one. */
 export function decoded(bytes, start, end) {
-  return new TextDecoder("utf-8", { fatal: true, ignoreBOM: true })
-    .decode(bytes.subarray(start, end));
+  return decoder.decode(bytes.subarray(start, end));
 }
 
 /** Returns how many UTF-16 code units the character has that begins with a byte, or 0 for a byte
