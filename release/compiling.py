@@ -26,6 +26,9 @@ PROBE = re.compile(r' "probe-stack"="[^"]*"')
 PROBE_SIZE = re.compile(r' "stack-probe-size"="[^"]*"')
 PROCESSOR = re.compile(r' "target-cpu"="[^"]*"')
 
+# The least page of memory: a function with a larger frame has to touch each page of it in turn, so
+# that it cannot step over the guard of the stack.
+PAGE = 4096
 # The frame of a function, as `-fstack-usage` tells it.
 FRAME = re.compile(r"^(?P<name>.*)\t(?P<bytes>\d+)\t(?P<kind>.*)$", re.M)
 
@@ -105,6 +108,8 @@ def compiled(module: Module, platform: Platform, folder: str) -> Compiled:
     if others:
         raise ToolError(f"{platform.triple}: a frame has no fixed size: {others[0]}")
     size, name, _ = max(frames)
+    if size > PAGE and platform.form in (ELF, MACHO) and not PROBE.search(text):
+        raise ToolError(f"{platform.triple}: nothing probes the stack of {name}")
     return Compiled(path, (size, name))
 
 
@@ -137,10 +142,12 @@ def link_coff(platform: Platform, made: Compiled, folder: str) -> None:
     dlltool, runtime = os.path.join(room, "llvm-dlltool"), os.path.join(room, "msvcrt.lib")
     os.symlink(tool("llvm-ar"), dlltool)
     output_of(dlltool, "-m", "i386:x86-64", "-d", os.path.join(HERE, "msvcrt.def"), "-l", runtime)
+    # It has the probes of the stack.
+    support = output_of(platform.compiler[0], "-print-libgcc-file-name").strip()
     output_of(tool("ld.lld"), "-flavor", "link", "/lldmingw", "/dll", "/noentry", "/machine:x64",
               "/Brepro", "/nodefaultlib", "/dynamicbase", "/highentropyva", "/nxcompat",
               *(f"/export:{call}" for call in calls()), f"/out:{out}",
-              f"/implib:{os.path.join(folder, platform.imports[0])}", made.path, runtime)
+              f"/implib:{os.path.join(folder, platform.imports[0])}", made.path, runtime, support)
 
 
 def link_macho(platform: Platform, made: Compiled, folder: str) -> None:

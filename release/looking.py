@@ -22,6 +22,9 @@ STARTED = frozenset({
 })
 BINDER = "dyld_stub_binder"
 SYSTEM = "/usr/lib/libSystem.B.dylib"
+# The names of constants, which each object for the linker of Microsoft shares with others that have
+# the same constant.
+CONSTANT = re.compile(r"__(real|xmm)@[0-9a-f]+$")
 # How the module of WebAssembly is called, beside the calls of the header.
 HOST = {"memory", "cfgx_take", "cfgx_forget"}
 
@@ -47,7 +50,8 @@ class Look:
         found = re.findall(r"^(\S+) (\w) \S+ \S*$",
                            self.printed("llvm-nm", "--format=posix", "--extern-only", *words), re.M)
         is_marked = self.platform.form == MACHO
-        return {self.plain(name, is_marked): letter for name, letter in found}
+        return {self.plain(name, is_marked): letter for name, letter in found
+                if letter != "R" or not CONSTANT.match(name)}
 
     def plain(self, name: str, is_marked: bool) -> str:
         """Returns the name in C of a symbol."""
@@ -146,9 +150,9 @@ def look_at_imports(look: Look) -> None:
     """Looks at what a linker takes in place of a library for Windows."""
     names = [name for name, letter in look.symbols().items() if letter == "T"]
     look.expect("what it leads to", sorted(names), sorted(calls()))
-    found = re.findall(r"^File: (\S+)\nFormat: COFF-import-file$",
-                       look.printed("llvm-readobj", "--file-headers"), re.M)
-    look.expect("the library", set(found), {"cfgx.dll"})
+    data = repository.read(look.path)
+    others = [call for call in calls() if f"{call}\0cfgx.dll\0".encode() not in data]
+    look.expect("calls that it looks for elsewhere", others, [])
 
 
 LOOKS = {ELF: look_at_elf, COFF: look_at_coff, MACHO: look_at_macho, WASM: look_at_wasm}

@@ -4,6 +4,7 @@ import json
 import os
 import re
 import subprocess
+import sys
 import time
 from typing import Dict, List, NamedTuple
 
@@ -33,12 +34,14 @@ class ToolError(Exception):
 
 
 def output_of(*words: str) -> str:
-    """Returns what a command prints at the top of the repository. Raises `ToolError`."""
+    """Returns what a command prints at the top of the repository. Raises `ToolError` if it fails,
+    and then prints that on standard error."""
     try:
         run = subprocess.run(words, cwd=ROOT, check=True, stdout=subprocess.PIPE)
     except FileNotFoundError as error:
         raise ToolError(f"there is no `{words[0]}` on the path") from error
     except subprocess.CalledProcessError as error:
+        sys.stderr.write(error.stdout.decode(errors="replace"))
         raise ToolError(f"`{' '.join(words)}` ends with status {error.returncode}") from error
     return run.stdout.decode()
 
@@ -75,6 +78,13 @@ def project(name: str) -> List[str]:
     """Returns what stands in quotes in the line of this name in the project of the package."""
     line, = re.findall(rf"^{name} = (.*)$", read_text(PROJECT), re.M)
     return re.findall(r'"(.*?)"', line)
+
+
+def project_list(name: str) -> List[str]:
+    """Returns what stands in quotes in the list of this name in the project of the package, which
+    is one of several lines."""
+    found, = re.findall(rf"^{name} = \[\n(.*?)^\]$", read_text(PROJECT), re.M | re.S)
+    return re.findall(r'"(.*?)"', found)
 
 
 def rust_field(manifest: str, name: str) -> str:

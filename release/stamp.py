@@ -13,6 +13,9 @@ KIT = {"version": "kit", "archive": "archive", "commit": "commit", "compiler": "
 # Where `release/platforms` puts the libraries for all platforms, and its stamp there.
 PLATFORMS = "out/platforms"
 PLATFORMS_STAMP = "stamp"
+# What makes them, beside the folder `release/runtime`.
+MAKERS = ("crates/cfgx_c/examples/cfgx.c", "crates/cfgx_c/examples/support.h",
+          "release/compiling.py", "release/modules.py", "release/platforms", "release/targets.py")
 # How each folder is filled anew.
 AGAIN = {BUILT: f"run crates/cfgx_c/install {BUILT}", PLATFORMS: "run release/platforms"}
 STAMPS = {BUILT: STAMP, PLATFORMS: PLATFORMS_STAMP}
@@ -22,6 +25,13 @@ STAMPS = {BUILT: STAMP, PLATFORMS: PLATFORMS_STAMP}
 def sources() -> str:
     """Returns the sum of the sources of the program and the library that stand here."""
     return repository.output_of(repository.STAMPER, "sources").strip()
+
+
+def makers() -> str:
+    """Returns the sum of what makes the libraries for all platforms out of modules."""
+    runtime = "release/runtime"
+    inside = (f"{runtime}/{name}" for name in sorted(os.listdir(os.path.join(ROOT, runtime))))
+    return sum_of(b"".join(read(path) for path in (*MAKERS, *inside)))
 
 
 def files_in(folder: str, stamp: str) -> Dict[str, str]:
@@ -56,6 +66,8 @@ def check(folder: str = BUILT) -> None:
         raise ToolError(f"{folder} was not built of the sources that stand here: {again}")
     if any(told.get(name) != kit.get(field) for field, name in KIT.items()):
         raise ToolError(f"{folder} was built by another kit: {again}")
+    if folder == PLATFORMS and told.get("makers") != makers():
+        raise ToolError(f"{folder} was not made by what stands here: {again}")
     found = files_in(folder, STAMPS[folder])
     paths = sorted({*found, *installed})
     wrong = [path for path in paths if found.get(path) != installed.get(path)]
@@ -70,7 +82,8 @@ def write(folder: str, told: List[str]) -> None:
     files = [f"{sum_or_link}  {path}"
              for path, sum_or_link in sorted(files_in(folder, PLATFORMS_STAMP).items())]
     with open(os.path.join(folder, PLATFORMS_STAMP), "w", encoding="utf-8") as file:
-        file.write("".join(f"{line}\n" for line in [*built, *told, *files]))
+        lines = [*built, f"makers {makers()}", *told, *files]
+        file.write("".join(f"{line}\n" for line in lines))
 
 
 def told_of(what: str) -> Dict[str, str]:

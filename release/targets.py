@@ -11,6 +11,7 @@ ELF, COFF, MACHO, WASM = "ELF", "COFF", "Mach-O", "WebAssembly"
 # The functions of C that the engine takes memory by, and those that a compiler puts in for loops.
 HEAP = frozenset({"free", "malloc", "realloc"})
 BLOCKS = frozenset({"memcmp", "memcpy", "memmove", "memset"})
+LINUX = HEAP | BLOCKS | {"bcmp"}
 
 
 class Platform(NamedTuple):
@@ -29,7 +30,8 @@ class Platform(NamedTuple):
     # the program, where one is made of examples/cfgx.c, and what compiles and links it
     program: str = ""
     compiler: Tuple[str, ...] = ()
-    # what its libraries may ask of its C library, and of its compiler, by the names in C
+    # what its libraries may ask of its C library, and of its compiler for a large frame, by the
+    # names in C
     needs: FrozenSet[str] = HEAP | BLOCKS
     # what runs its libraries in the tests, or nothing
     runner: str = ""
@@ -41,17 +43,17 @@ class Platform(NamedTuple):
 
 
 # The archive of the kit serves x86-64 Linux, which `crates/cfgx_c/install` puts into `out/cfgx`.
-X86_LINUX = Platform(X86, X86, X86, ELF, "libcfgx.a", "libcfgx.so", needs=HEAP | BLOCKS | {"bcmp"},
+X86_LINUX = Platform(X86, X86, X86, ELF, "libcfgx.a", "libcfgx.so", needs=LINUX,
                      runner="this processor")
 ARM_LINUX = Platform(ARM, ARM, ARM, ELF, "libcfgx.a", "libcfgx.so", program="cfgx",
-                     compiler=("aarch64-linux-gnu-gcc",), needs=HEAP | BLOCKS | {"bcmp"},
+                     compiler=("aarch64-linux-gnu-gcc",), needs=LINUX,
                      runner="qemu-aarch64")
 WINDOWS_GNU = Platform("x86_64-pc-windows-gnu", "x86_64-pc-windows-gnu", X86, COFF, "libcfgx.a",
                        "cfgx.dll", ("libcfgx.dll.a",), "cfgx.exe",
                        ("x86_64-w64-mingw32-gcc", "-static", "-Wl,--no-insert-timestamp"),
-                       runner="wine")
+                       needs=HEAP | BLOCKS | {"___chkstk_ms"}, runner="wine")
 WINDOWS_MSVC = Platform("x86_64-pc-windows-msvc", "x86_64-pc-windows-msvc", X86, COFF, "cfgx.lib",
-                        imports=("cfgx.dll.lib",))
+                        imports=("cfgx.dll.lib",), needs=HEAP | BLOCKS | {"__chkstk"})
 X86_MAC = Platform("x86_64-apple-darwin", "x86_64-apple-macosx10.12", X86, MACHO, "libcfgx.a",
                    "libcfgx.dylib", needs=HEAP | BLOCKS | {"bzero", "__bzero"})
 ARM_MAC = Platform("aarch64-apple-darwin", "arm64-apple-macosx11.0", ARM, MACHO, "libcfgx.a",

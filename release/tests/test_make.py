@@ -255,6 +255,21 @@ class Stamps(Copy):
         os.remove(self.path(STAMP))
         self.check_refusal(f"out/cfgx has no stamp: {self.again}")
 
+    def test_libraries_that_something_else_made(self):
+        for path in ("release/runtime/heap.ll.in", "release/compiling.py",
+                     "crates/cfgx_c/examples/cfgx.c"):
+            with self.subTest(path=path):
+                text = self.read(path)
+                self.write(path, "\n", "a")
+                self.check_refusal("out/platforms was not made by what stands here: "
+                                   "run release/platforms")
+                self.write(path, text)
+
+    def read(self, path):
+        """Returns the text of a file of the clone."""
+        with open(self.path(path), encoding="utf-8") as file:
+            return file.read()
+
     def test_other_sources(self):
         said = f"out/cfgx was not built of the sources that stand here: {self.again}"
         for path in ("crates.txt", "crates/cfg_expr/src/expr.rt", "crates/cfgx/src/main.rt",

@@ -1,4 +1,4 @@
-/** The examples of docs/JAVASCRIPT.md. */
+/** The examples of docs/JAVASCRIPT.md and docs/README.md. */
 import assert from "node:assert/strict";
 import { mkdtempSync, rmSync, writeFileSync } from "node:fs";
 import { tmpdir } from "node:os";
@@ -9,7 +9,9 @@ import * as cfgx from "../src/node.js";
 import { read } from "./rows.js";
 
 const PAGE = read("docs/JAVASCRIPT.md");
-const BLOCKS = [...PAGE.matchAll(/^```js\n(.*?)^```$/gms)].map(([, text]) => text);
+const BLOCKS = [PAGE, read("docs/README.md")]
+  .flatMap((page) => [...page.matchAll(/^```js\n(.*?)^```$/gms)])
+  .map(([, text]) => text);
 // A line that shows what an expression is.
 const SHOWN = /^(.*); \/\/ (.*)$/gm;
 
@@ -20,7 +22,7 @@ function programOf(block) {
     .replace(SHOWN, (_, code, wanted) => `assert.deepEqual(${code}, ${wanted});`)}`;
 }
 
-test("the page for JavaScript has examples that are so", async () => {
+test("the pages have examples that are so", async () => {
   const folder = mkdtempSync(join(tmpdir(), "cfgx-page-"));
   try {
     for (const [at, block] of BLOCKS.entries()) {
@@ -31,8 +33,8 @@ test("the page for JavaScript has examples that are so", async () => {
   } finally {
     rmSync(folder, { recursive: true });
   }
-  assert.equal(BLOCKS.length, 3);
-  assert.equal(BLOCKS.flatMap((block) => [...block.matchAll(SHOWN)]).length, 18);
+  assert.equal(BLOCKS.length, 4);
+  assert.equal(BLOCKS.flatMap((block) => [...block.matchAll(SHOWN)]).length, 19);
 });
 
 test("the page for JavaScript would fail for an example that is not so", async () => {

@@ -51,9 +51,12 @@ def is_there(name):
         return sys.platform == "linux"
     if name == "limit of memory":
         return "qemu" not in PYTHON[0]
-    if name in ("setuptools", "tomli"):
+    if name == "a builder of wheels":
+        modules = ("setuptools", "wheel")
+        return all(importlib.util.find_spec(one) is not None for one in modules)
+    if name == "tomli":
         return importlib.util.find_spec(name) is not None
-    if name not in ("bash", "cargo", "fish", "jq", "mypy", "rustc", "zsh"):
+    if name not in ("bash", "cargo", "cc", "fish", "jq", "mypy", "rustc", "zsh"):
         raise ValueError(name)
     # A tool that rustup stands in for may lack its toolchain.
     pipe = subprocess.PIPE

@@ -11,10 +11,6 @@ from typing import Dict, Iterator, List, NamedTuple, Optional, Tuple
 
 NAME = "judged.rs"
 SPAN = rf"{re.escape(NAME)}:(\d+):(\d+): (\d+):(\d+)"
-TOKENS = re.compile(
-    rf"Token \{{\n +kind: (?:[^\n]*|[^\n]*\(\n(?:.*?\n)??) *\)?,\n +span: {SPAN}"
-    rf"|^ +(?:open|close): {SPAN}", re.M | re.S
-)
 LINE = re.compile(rf" *(?:span|open|close): {SPAN} \(#\d+\),$")
 Place = Tuple[int, int]
 
@@ -66,57 +62,65 @@ class Source:
 Piece = Tuple[Place, Place, str]
 
 
-def pieces_of(tree: str, source: Source) -> List[Piece]:
-    """Returns the tokens of attributes and macros, in the order of the text. An attribute begins
-    with one that is `#[` or `#![`, and the call of a macro with one such as `cfg!`."""
-    found: Dict[Place, Piece] = {}
-    last = ""
-    attribute: List[Tuple[int, bool]] = []
-    for line in tree.splitlines():
-        stripped = line.lstrip(" ")
-        if stripped.startswith(("span: ", "open: ", "close: ")):
+# What a line of the tree begins, of which a span is told below, and what the last such line began.
+BEGINNING = (
+    ("Token {", "token"), ("DelimSpan {", "delimiter"), ("dspan: DelimSpan {", "delimiter"),
+    ("style: Inner", "inner"), ("style: Outer", "outer"),
+)
+
+
+class Pieces:
+    """The tokens of attributes and macros. An attribute begins with a token that is `#[` or `#![`,
+    and the call of a macro with one such as `cfg!`."""
+
+    def __init__(self, tree: str, source: Source) -> None:
+        self._source = source
+        self._found: Dict[Place, Piece] = {}
+        last = ""
+        for line in tree.splitlines():
+            stripped = line.lstrip(" ")
             spans = LINE.match(line)
-            if spans is None:
-                continue
-            numbers = tuple(map(int, spans.groups()))
-            start, end = numbers[:2], numbers[2:]
-            if last == "style":
-                mark = "#![" if is_inner else "#["
-                found[start] = (start, end, mark)
-                closing = (end[0], end[1] - 1)
-                found[closing] = (closing, end, "]")
-            elif last in ("token", "delimiter"):
-                text = source.between(start, end)
-                if text and start not in found:
-                    found[start] = (start, end, text)
-            elif last == "attribute path":
-                found.setdefault(start, (start, end, source.between(start, end)))
-            elif last == "macro path":
-                text = source.between(start, end)
-                head, _, name = text.rpartition("::")
-                place = start
-                if head:
-                    place = (end[0], end[1] - len(name))
-                if "\n" not in name:
-                    found[place] = (place, end, re.sub("^r#", "", name.strip()) + "!")
-            if last != "delimiter":
-                last = ""
-        elif stripped.startswith("Token {"):
-            last = "token"
-        elif stripped.startswith(("DelimSpan {", "dspan: DelimSpan {")):
-            last = "delimiter"
-        elif stripped.startswith("style: Inner") or stripped.startswith("style: Outer"):
-            last, is_inner = "style", stripped.startswith("style: Inner")
-        elif "AttrItem {" in stripped:
-            last = "attribute item"
-        elif "MacCall {" in stripped:
-            last = "macro"
-        elif stripped.startswith("path: Path {"):
-            last = {"attribute item": "attribute path", "macro": "macro path"}.get(last, "")
-        elif last == "delimiter" and stripped.startswith("}"):
-            last = ""
-    del attribute
-    return [found[place] for place in sorted(found)]
+            if spans is not None:
+                one, two, three, four = map(int, spans.groups())
+                self._add(last, (one, two), (three, four))
+                last = last if last == "delimiter" else ""
+            else:
+                last = began(stripped, last)
+
+    def all(self) -> List[Piece]:
+        """Returns them in the order of the text."""
+        return [self._found[place] for place in sorted(self._found)]
+
+    def _add(self, what: str, start: Place, end: Place) -> None:
+        """Adds what has a span."""
+        text = self._source.between(start, end)
+        if what in ("inner", "outer"):
+            closing = (end[0], end[1] - 1)
+            self._found[start] = (start, end, "#![" if what == "inner" else "#[")
+            self._found[closing] = (closing, end, "]")
+        elif what in ("token", "delimiter", "attribute path") and text:
+            self._found.setdefault(start, (start, end, text))
+        elif what == "macro path":
+            name = text.rpartition("::")[2]
+            place = (end[0], end[1] - len(name))
+            if "\n" not in name:
+                name = re.sub("^r#", "", name.strip())
+                self._found[place] = (place, end, f"{name}!")
+
+
+def began(line: str, last: str) -> str:
+    """Returns what a line of the tree begins of which a span is told below, or else what the line
+    before did, as far as it still counts."""
+    for start, what in BEGINNING:
+        if line.startswith(start):
+            return what
+    if "AttrItem {" in line:
+        return "attribute"
+    if "MacCall {" in line:
+        return "macro"
+    if line.startswith("path: Path {"):
+        return {"attribute": "attribute path", "macro": "macro path"}.get(last, "")
+    return "" if last == "delimiter" and line.startswith("}") else last
 
 
 OPENING, CLOSING = "([{", ")]}"
@@ -175,6 +179,8 @@ class Judge:
     def _between(self, form: str, is_inner: bool, first: int, last: int) -> Seen:
         """Returns the condition that has the tokens from one on up to another."""
         pieces = self._pieces[first:last]
+        # A comma behind a condition is none of its tokens.
+        pieces = pieces[:-1] if len(pieces) > 1 and pieces[-1][2] == "," else pieces
         start = pieces[0][0] if pieces else self._pieces[last][0]
         end = pieces[-1][1] if pieces else self._pieces[last][0]
         return Seen(form, is_inner, start, end, tuple(text for _, _, text in pieces))
@@ -232,4 +238,4 @@ def conditions_in(data: bytes, folder: str) -> Optional[List[Seen]]:
     """Returns the conditions that rustc sees in a file, or `None` if it does not parse it. Writes
     the file into a folder."""
     tree = tree_of(data, folder)
-    return None if tree is None else Judge(pieces_of(tree, Source(data))).seen()
+    return None if tree is None else Judge(Pieces(tree, Source(data)).all()).seen()

@@ -155,9 +155,9 @@ class Listed(Folder):
         rows = [
             ({"manifest": root}, "one two three"), ({"manifest": self.folder}, "one two three"),
             ({"manifest": self.folder + "/one"}, "one"),
-            ({"manifest": self.folder + "/one/Cargo.toml", "is_workspace": True}, "one two three"),
+            ({"manifest": self.folder + "/one/Cargo.toml", "workspace": True}, "one two three"),
             ({"manifest": self.folder + "/one", "packages": ["two"]}, "two"),
-            ({"manifest": root, "packages": ["three", "one"], "is_workspace": True}, "one three"),
+            ({"manifest": root, "packages": ["three", "one"]}, "one three"),
             ({"manifest": root, "packages": ["three", "one", "three"]}, "one three"),
         ]
         listed = [one.name for one in _cargo.workspace_of(root).packages]
@@ -185,7 +185,7 @@ class Listed(Folder):
         path = self.write_package(below, '[dependencies]\nb = "1"', '[workspace]\nmembers = ["two"]'
                                   ).replace(f'"{below}"', '"root"')
         self.assertEqual(len(manifest.report(path).rows), 1)
-        self.assertEqual(len(manifest.report(path, is_workspace=True).rows), 2)
+        self.assertEqual(len(manifest.report(path, workspace=True).rows), 2)
 
     def test_ways_to_a_manifest(self):
         self.write_package("a", entry("dependencies", "b"))

@@ -11,7 +11,7 @@ from cfgx import _command, targets
 
 # What stands behind the command, and what a shell offers for the last word.
 ROWS = [
-    ("--fo", ["--format"]), ("--no", ["--no-other-cfg"]), ("--rust", ["--rustc", "--rustflags"]),
+    ("--fo", ["--format"]), ("--no", ["--no-default-features", "--no-other-cfg"]), ("--rust", ["--rustc", "--rustflags"]),
     ("--format t", ["table", "tsv"]), ("--format json,t", []), ("--cfg n", []),
     ("--kind n", ["normal"]), ("--kind normal,d", ["normal,dev"]), ("--kind x", []),
     ("--only conditional,differing,u", ["conditional,differing,unknown"]),
@@ -49,7 +49,7 @@ zpty -d shell
 """
 # Lines, and what zsh makes of them: it adds what all words that it offers begin with.
 ZSH_ROWS = [
-    ("--fo", "--format="), ("--no", "--no-other-cfg "), ("--rust", "--rust"),
+    ("--fo", "--format="), ("--no", "--no-"), ("--rust", "--rust"),
     ("--format=j", "--format=json "), ("--format ts", "--format tsv "),
     ("--kind normal,d", "--kind normal,dev,"), ("--only=u", "--only=unknown,"),
     ("--target=all,wasm32v", "--target=all,wasm32v1-none,"),

@@ -1,6 +1,5 @@
 """The library: its header, how it is found, and memory."""
 import ctypes
-import fnmatch
 import itertools
 import os
 import re
@@ -362,10 +361,9 @@ class Project(unittest.TestCase):
     def test_its_files(self):
         numbers = numbers_of("VERSION")
         self.assertEqual(NAME, f"libcfgx.so.{numbers['LANGUAGE']}.{numbers['MAJOR']}")
-        *files, library, macos, windows = self.fields("cfgx")
+        schemas = (f"manifest/{name}" for name in self.fields('"cfgx.manifest"'))
+        files = [*self.fields("cfgx"), *schemas]
         self.assertEqual(files, ["py.typed", _targets.NAME, "manifest/schema.json"])
-        self.assertTrue(fnmatch.fnmatch(NAME, library), library)
-        self.assertEqual({"darwin": macos, "win32": windows}, _library.NAMES)
         for name in files:
             self.assertTrue(os.path.exists(os.path.join(PACKAGE, "cfgx", name)))
 

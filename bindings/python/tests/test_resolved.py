@@ -156,8 +156,8 @@ class Trees(Locked):
         Returns how many values were compared, and how many packages were more."""
         path, count, extra = self.write_locked(packages, resolver), 0, 0
         for kinds in KINDS if resolver == "2" else KINDS[-1:]:
-            report = manifest.resolved(path, TARGETS, is_workspace=True, kinds=kinds,
-                                       features=features, has_other_flags=False)
+            report = manifest.resolved(path, TARGETS, workspace=True, kinds=kinds,
+                                       features=features, no_other_cfg=True)
             for place, target in enumerate(TARGETS):
                 wanted = self.tree(path, target, kinds, *words)
                 found = packages_of(report, place)
@@ -267,8 +267,8 @@ class Started(Locked):
         self.write("store/a/src/lib.rs")
         self.write("store/a/.cargo-checksum.json", '{"files": {}}')
         path = self.write_package("b", '[dependencies]\na = "1"', "[workspace]")
-        config = (f'[source.crates-io]\nreplace-with = "store"\n[source.store]\n'
-                  f'directory = "{self.folder}/store"\n')
+        config = ('[source.crates-io]\nreplace-with = "store"\n[source.store]\n'
+                  'directory = "../store"\n')
         file = self.write("b/.cargo/config.toml", config)
         home = {"CARGO_HOME": os.path.join(self.folder, "home")}
         words = ['source.crates-io.replace-with="store"',
@@ -279,7 +279,7 @@ class Started(Locked):
             self.addCleanup(os.chdir, before)
             os.chdir(self.folder)
             for settings in ([file], ["b/.cargo/config.toml"], words):
-                [row, _] = manifest.resolved(path, TARGETS[:1], settings=settings).rows
+                [row, _] = manifest.resolved(path, TARGETS[:1], config=settings).rows
                 self.assertEqual((row.package.name, row.package.version), ("a", "1.2.3"))
                 self.assertEqual(row.package.source.kind, "registry")
                 self.assertEqual(row.values, (Value.YES,))
@@ -305,7 +305,7 @@ class Fake(Made):
         rows = [
             ([], ""), (["--all-features"], " --all-features"),
             (["--features", "a,b", "--features=c", "--no-default-features"],
-             " --no-default-features --features=a,b --features=c"),
+             " --no-default-features --features=a --features=b --features=c"),
             (["--config", "a.b=1", "--config=."], f" --config=a.b=1 --config={self.audited}"),
         ]
         for words, wanted in rows:
@@ -350,7 +350,7 @@ class Fake(Made):
             (["--fail-on", "never"], 1, "cfgx-deps: never true: r 1.0.0\n"),
             (["--fail-on", "unknown", "--no-other-cfg"], 0, ""),
             (["-p", "z"], 2, "cfgx-deps: the workspace has no package z\n"),
-            (["-p", "q"], 2, "cfgx-deps: the workspace has no package q; is it p?\n"),
+            (["-p", "q"], 2, "cfgx-deps: the workspace has no package q\n"),
         ]
         for words, status, message in rows:
             with self.subTest(words=words):

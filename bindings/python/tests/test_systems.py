@@ -6,6 +6,7 @@ import shutil
 import subprocess
 import sys
 import tempfile
+import time
 import unittest
 import unittest.mock
 
@@ -119,9 +120,11 @@ class Programs(Folder):
 
     def test_no_taskkill(self):
         """The process itself ends all the same."""
+        before = time.monotonic()
         with unittest.mock.patch.dict("os.environ", SystemRoot="/nowhere"), \
                 self.assertRaisesRegex(_process.LimitError, "did not end within 0.5 s"):
             _process.run([shutil.which("sleep"), "60"], _process.Limits(seconds=0.5))
+        self.assertLess(time.monotonic() - before, 30)
 
 
 class Commands(Made):

@@ -140,8 +140,14 @@ class Progress(unittest.TestCase):
         progress(1, 2)
         progress(2, 2)
         progress.clear()
-        wanted = "\rrustc: 1 of 2\x1b[K\rrustc: 2 of 2\x1b[K\r\x1b[K"
+        progress.clear()
+        wanted = f"\rrustc: 1 of 2\rrustc: 2 of 2\r{' ' * 13}\r"
         self.assertEqual(stream.getvalue(), wanted)
+
+    def test_nothing_that_is_shown(self):
+        stream = Stream(True)
+        _terminal.Progress(stream, "rustc").clear()
+        self.assertEqual(stream.getvalue(), "")
 
     def test_elsewhere(self):
         for stream in (Stream(False), Stream(True, is_full=True), None):

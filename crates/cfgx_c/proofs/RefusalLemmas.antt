@@ -14,6 +14,7 @@ use Rattle.cfgx_syntax.specs.Error.{Fault, failure_of, fault_in, fault_of}
 use Rattle.cfgx_syntax.specs.declared.error.Failure.{Failure}
 use Rattle.cfgx_syntax.specs.declared.error.Failure.TheVariants as failure
 use Rattle.cfgx_syntax.specs.declared.error.ParseError.{ParseError}
+use Rattle.cfgx_syntax.specs.declared.stripping.Stripped.{Stripped}
 use Rattle.cfgx_grammar.specs.Answer.{Answers, HasOneTree}
 use Rattle.cfgx_engine.specs.Audits.{IsFirstFault}
 use Rattle.cfgx_engine.specs.Facts.{IsRustcFact, ReadsFacts}
@@ -24,7 +25,8 @@ use Rattle.cfgx_c.specs.Faults.{IsCondition}
 use Rattle.cfgx_c.specs.Faults.{c_fault, fact_offset}
 use Rattle.cfgx_c.specs.Status.{faulty, faulty_fact, not_utf8}
 use Rattle.cfgx_c.specs.declared.fault.{CfgxFault.CfgxFault, Refusal.Refusal}
-use Rattle.cfgx_c.specs.internal.Refusals.{IsAbout, IsFirstFrom, IsThatOfFirst, Refuses}
+use Rattle.cfgx_c.specs.internal.Refusals.{IsAbout, IsFirstFrom, IsStripped, IsThatOfFirst}
+use Rattle.cfgx_c.specs.internal.Refusals.{Refuses}
 use Rattle.cfgx_c.specs.internal.Refusals.{RefusesText, fault_at, text_refusal, text_statuses}
 use Rattle.cfgx_c.specs.internal.Refusals.{views}
 
@@ -136,7 +138,7 @@ pub text_refused : {A : Type 0} (slice : List (Bor (List ℕ))) (index : ℕ) (d
     (failed : Failure A)
     → IfSome (failure_of {A = A} failed) (IsFirstFault (views slice) index)
     → IsAbout faulty (IsThatOfFirst (λ text. HasOneTree (strip text)) HasFault (views slice))
-    (text_refusal {A = A} index (get_or slice index d).now failed)
+    (text_refusal {A = A} index (strip_offset (get_or slice index d).now) failed)
 text_refused {A} slice index d (failure.Memory refused) first = inl refl
 text_refused {A} slice index d (failure.Parse error) first =
     let (found, reads, is) = first.parses in
@@ -222,7 +224,7 @@ RefusesText-bytes text refusal is number has =
 
 pub RefusesText-failure : {A : Type 0} (text : List ℕ) (failed : Failure A) → IsUtf8 text
     → Answers {A = A} (strip text) (Err failed)
-    → RefusesText text text_statuses (text_refusal {A = A} 0 text failed)
+    → RefusesText text text_statuses (text_refusal {A = A} 0 (strip_offset text) failed)
 RefusesText-failure text (failure.Memory refused) utf8 answers = grind arith
 RefusesText-failure {A} text (failure.Parse error) utf8 (found, is, reads) =
     let first = IsFirst-seam (λ text. HasOneTree (strip text)) HasFault [] text []
@@ -232,3 +234,12 @@ RefusesText-failure {A} text (failure.Parse error) utf8 (found, is, reads) =
     let none = All-nil IsFact in
     let all = All-cons IsUtf8 text [] utf8 (All-nil IsUtf8) in
     grind arith
+
+-- the same of a text that was stripped
+pub RefusesText-stripped : {A : Type 0} {text : List ℕ} {stripped : Stripped} (failed : Failure A)
+    → IsStripped text stripped → IsUtf8 text → Answers {A = A} stripped.text.now (Err failed)
+    → RefusesText text text_statuses (text_refusal {A = A} 0 stripped.offset failed)
+RefusesText-stripped {A} {text} failed is utf8 answers =
+    let answers = subst (λ (kept : List ℕ). Answers {A = A} kept (Err failed)) is.text_is answers in
+    subst (λ (offset : ℕ). RefusesText text text_statuses (text_refusal {A = A} 0 offset failed))
+    (sym is.offset_is) (RefusesText-failure text failed utf8 answers)

@@ -26,29 +26,30 @@ use Rattle.cfgx_c.specs.internal.Refusals.{fault_at}
 use Rattle.cfgx_c.proofs.StrippedParts.{part_of_stripped}
 
 -- the lexer of the text has come to this place, behind the items that the tokens show
-pub record Reads (text : List ℕ) (tokens : List CfgxToken) (now : LexerState) : Type 0 where
-  pub of_text : now.text ≡ strip text
+pub record Reads (text : List ℕ) (offset : ℕ) (tokens : List CfgxToken) (now : LexerState)
+    : Type 0 where
+  pub of_text : now.text ≡ text
   pub items : List Item
-  pub shown : tokens ≡ map (c_token (strip_offset text)) items
-  pub behind : (rest : List Item) (ending : Ending) → ItemsFrom (strip text) now.place rest ending
-      → AreItems (strip text) (items ++ rest) ending
+  pub shown : tokens ≡ map (c_token offset) items
+  pub behind : (rest : List Item) (ending : Ending) → ItemsFrom text now.place rest ending
+      → AreItems text (items ++ rest) ending
 
-pub Reads-start : (text : List ℕ) → Reads text [] (starting (strip text))
-Reads-start text = record {
+pub Reads-start : (text : List ℕ) (offset : ℕ) → Reads text offset [] (starting text)
+Reads-start text offset = record {
   of_text = refl;
   items = [];
   shown = refl;
   behind = λ rest ending come. come;
 }
 
-module _ {text : List ℕ} {tokens : List CfgxToken} {now : LexerState}
-    (reads : Reads text tokens now) where
+module _ {text : List ℕ} {offset : ℕ} {tokens : List CfgxToken} {now : LexerState}
+    (reads : Reads text offset tokens now) where
   -- one token more
   pub Reads-token : (lexed : LexerToken) (next : LexerState) → GivesItem now (item_of lexed) next
-      → Reads text (tokens ++ c_token (strip_offset text) (item_of lexed) ∷ []) next
+      → Reads text offset (tokens ++ c_token offset (item_of lexed) ∷ []) next
   Reads-token lexed next gives =
       let item = item_of lexed in
-      let show = c_token (strip_offset text) in
+      let show = c_token offset in
       rw gives.goes_on (record {
         of_text = reads.of_text;
         items = reads.items ++ item ∷ [];
@@ -60,7 +61,7 @@ module _ {text : List ℕ} {tokens : List CfgxToken} {now : LexerState}
 
   -- the token lies in the text
   pub token_within : (lexed : LexerToken) (next : LexerState) → GivesItem now (item_of lexed) next
-      → (lexed.span.start ≤ lexed.span.end) × (lexed.span.end ≤ length (strip text))
+      → (lexed.span.start ≤ lexed.span.end) × (lexed.span.end ≤ length text)
   token_within lexed next gives =
       let stands = rw reads.of_text at gives.stands in (stands.ordered, stands.inside)
 
@@ -80,7 +81,7 @@ module _ {text : List ℕ} {tokens : List CfgxToken} {now : LexerState}
       ))
 
   -- only white space is left
-  pub HasTokens-end : IsBlank (drop now.place now.text) → HasTokens text tokens None
+  pub HasTokens-end : IsBlank (drop now.place now.text) → HasTokens text offset tokens None
   HasTokens-end blank = record {
     items = reads.items;
     ending = Ending.blank;
@@ -92,7 +93,8 @@ module _ {text : List ℕ} {tokens : List CfgxToken} {now : LexerState}
 
   -- the lexical fault is next
   pub HasTokens-fault : (error : ParseError Global) (next : LexerState)
-      → GivesFault {A = Global} now (failure.Parse error) next → HasTokens text tokens (Some error)
+      → GivesFault {A = Global} now (failure.Parse error) next
+      → HasTokens text offset tokens (Some error)
   HasTokens-fault error next gives = record {
     items = reads.items;
     ending = gives.ending;
@@ -105,22 +107,22 @@ module _ {text : List ℕ} {tokens : List CfgxToken} {now : LexerState}
   }
 
 -- the tokens so far were written over those of the buffer, and as many are left as there is room
-pub record Writes (text : List ℕ) (now : LexerState) (written : ℕ) (old buffer : List CfgxToken)
-    : Type 0 where
+pub record Writes (text : List ℕ) (offset : ℕ) (now : LexerState) (written : ℕ)
+    (old buffer : List CfgxToken) : Type 0 where
   pub front : List CfgxToken
-  pub reads : Reads text front now
+  pub reads : Reads text offset front now
   pub left : List Item
   pub ending : Ending
-  pub come : ItemsFrom (strip text) now.place left ending
+  pub come : ItemsFrom text now.place left ending
   pub count : written ≡ length front
   pub room : written + length left ≡ length old
   pub shown : buffer ≡ front ++ drop written old
 
-pub Writes-start : (text : List ℕ) (buffer : List CfgxToken) → HasTokenCount text (length buffer)
-    → Writes text (starting (strip text)) 0 buffer buffer
-Writes-start text buffer has = record {
+pub Writes-start : (text : List ℕ) (offset : ℕ) (buffer : List CfgxToken)
+    → HasTokenCount text (length buffer) → Writes text offset (starting text) 0 buffer buffer
+Writes-start text offset buffer has = record {
   front = [];
-  reads = Reads-start text;
+  reads = Reads-start text offset;
   left = has.items;
   ending = has.ending;
   come = has.are_items;
@@ -129,10 +131,10 @@ Writes-start text buffer has = record {
   shown = refl;
 }
 
-module _ {text : List ℕ} {now : LexerState} {written : ℕ} {old buffer : List CfgxToken}
-    (writes : Writes text now written old buffer) where
+module _ {text : List ℕ} {offset : ℕ} {now : LexerState} {written : ℕ}
+    {old buffer : List CfgxToken} (writes : Writes text offset now written old buffer) where
   -- all tokens were written
-  pub Writes-all : written ≡ length old → AreTokens text buffer
+  pub Writes-all : written ≡ length old → AreTokens text offset buffer
   Writes-all all =
       let none : length writes.left ≡ 0 = omega (arith, all, writes.room) in
       let no_more = nil_from_length writes.left none in
@@ -149,7 +151,7 @@ module _ {text : List ℕ} {now : LexerState} {written : ℕ} {old buffer : List
     -- there is a next token
     not_over : (ending : Ending) → EndsAs now.text now.place ending → ⊥
     not_over ending ends =
-        let over = no_more_items (strip text) now.place writes.left writes.ending ending
+        let over = no_more_items text now.place writes.left writes.ending ending
         (rw writes.reads.of_text at ends) writes.come in
         omega (arith, more, writes.room, ap length over.0)
 
@@ -163,11 +165,11 @@ module _ {text : List ℕ} {now : LexerState} {written : ℕ} {old buffer : List
 
     -- one token more
     pub Writes-token : (lexed : LexerToken) (next : LexerState) → GivesItem now (item_of lexed) next
-        → Writes text next (written + 1) old
-        (set buffer written (c_token (strip_offset text) (item_of lexed)))
+        → Writes text offset next (written + 1) old
+        (set buffer written (c_token offset (item_of lexed)))
     Writes-token lexed next gives =
-        let token = c_token (strip_offset text) (item_of lexed) in
-        let follows = Follows-stands (strip text) now.place (item_of lexed) writes.left
+        let token = c_token offset (item_of lexed) in
+        let follows = Follows-stands text now.place (item_of lexed) writes.left
         writes.ending (rw writes.reads.of_text at gives.stands) writes.come in
         record {
           front = writes.front ++ token ∷ [];
@@ -182,13 +184,13 @@ module _ {text : List ℕ} {now : LexerState} {written : ℕ} {old buffer : List
         }
 
 -- the tokens that were written are those that were counted
-pub same_tokens : (text : List ℕ) (counted written : List CfgxToken)
-    (error : Option (ParseError Global)) → HasTokens text counted error → AreTokens text written
-    → written ≡ counted
-same_tokens text counted written error has are =
-    let same = ItemsFrom-same (strip text) 0 has.items are.items has.ending are.ending
+pub same_tokens : (text : List ℕ) (offset : ℕ) (counted written : List CfgxToken)
+    (error : Option (ParseError Global)) → HasTokens text offset counted error
+    → AreTokens text offset written → written ≡ counted
+same_tokens text offset counted written error has are =
+    let same = ItemsFrom-same text 0 has.items are.items has.ending are.ending
     has.are_items are.are_items in
-    are.shown ∙ ap (map (c_token (strip_offset text))) same.0 ∙ sym has.shown
+    are.shown ∙ ap (map (c_token offset)) same.0 ∙ sym has.shown
 
 -- each token shows its item, with its span moved by what was stripped
 shown_each : (text : List ℕ) (from : ℕ) (items : List Item) (ending : Ending)
@@ -209,7 +211,8 @@ shown_each text from (item ∷ items) ending (stands, more) = (
 -- what the call says of the tokens, and of how they end
 pub ListsTokens-read : (text : List ℕ) (tokens old new : List CfgxToken) (needed status : ℕ)
     (fault : CfgxFault) (error : Option (ParseError Global)) → Fills tokens old new needed
-    → HasTokens text tokens error → TellsLexical text (option_map fault_at error) status fault
+    → HasTokens (strip text) (strip_offset text) tokens error
+    → TellsLexical text (option_map fault_at error) status fault
     → ListsTokens text status old new needed fault
 ListsTokens-read text tokens old new needed status fault error fills has tells = record {
   items = has.items;

@@ -16,7 +16,7 @@ ghost use Rattle.cfgx_c.specs.internal.Refusals.{Refuses};
 use crate::bytes::fill_values;
 use crate::ends::{are_ends, texts};
 use crate::fault::{CfgxFault, Refusal};
-use crate::reading::{read_condition, read_facts, read_text};
+use crate::reading::{read_condition, read_facts};
 use crate::status::{BAD_ENDS, DONE, FAULTY_FACT};
 use cfg_expr::Predicate;
 use cfg_expr::expr::{Condition, ConditionReader};
@@ -82,7 +82,7 @@ fn find_answers(
     let facts = texts(alloc, facts, fact_ends, FAULTY_FACT)?;
     let facts = read_facts(alloc, 0, facts.as_slice())?;
     let mut reader = ConditionReader::new(alloc);
-    let condition = read_condition(&mut reader, read_text(text)?)?;
+    let (condition, _) = read_condition(&mut reader, text)?;
     Ok(answers_to(alloc, &condition, &facts, otherwise)?)
 }
 

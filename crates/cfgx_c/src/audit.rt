@@ -16,6 +16,7 @@ use crate::fault::{CfgxFault, Refusal};
 use crate::reading::{read_targets, text_refusal};
 use crate::status::{BAD_ENDS, DONE, FAULTY_FACT, NOT_UTF8, TOO_LARGE};
 use cfgx_engine::resolve::{Otherwise, audit_facts};
+use cfgx_syntax::stripping::strip;
 use std::alloc::Global;
 
 /// Reads the facts and then the texts, and returns the values of the texts on the targets. Target
@@ -46,7 +47,11 @@ fn find_values(
     let conditions = conditions.as_slice();
     match audit_facts(alloc, conditions, targets.as_slice(), otherwise) {
         Ok(values) => Ok(values),
-        Err(error) => Err(text_refusal(error.index, conditions[error.index], error.failure)),
+        Err(error) => {
+            // The audit has stripped the text, and does not say how many bytes.
+            let offset = strip(conditions[error.index]).offset;
+            Err(text_refusal(error.index, offset, error.failure))
+        }
     }
 }
 

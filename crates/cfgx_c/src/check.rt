@@ -7,7 +7,7 @@ ghost use Rattle.cfgx_c.specs.Status.{IsOneOf, done, faulty, not_utf8, out_of_me
 ghost use Rattle.cfgx_c.specs.internal.Refusals.{RefusesText, text_statuses};
 
 use crate::fault::{CfgxFault, Refusal};
-use crate::reading::{read_condition, read_text};
+use crate::reading::read_condition;
 use crate::status::DONE;
 use cfg_expr::expr::ConditionReader;
 use std::alloc::Global;
@@ -20,7 +20,7 @@ fn check(alloc: Global, text: &[u8]) -> Result<(), Refusal>
     ensures err { IfErr result (RefusesText text.now text_statuses) }
 {
     let mut reader = ConditionReader::new(alloc);
-    read_condition(&mut reader, read_text(text)?)?;
+    read_condition(&mut reader, text)?;
     Ok(())
 }
 

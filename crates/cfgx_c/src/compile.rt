@@ -9,7 +9,7 @@ ghost use Rattle.cfgx_c.specs.internal.Refusals.{RefusesText, text_statuses};
 
 use crate::fault::{CfgxFault, Refusal};
 use crate::predicates::{CfgxPredicate, write_predicates};
-use crate::reading::{read_condition, read_text};
+use crate::reading::read_condition;
 use crate::status::DONE;
 use crate::steps::CfgxStep;
 use cfg_expr::expr::ConditionReader;
@@ -32,15 +32,14 @@ fn compile(
 {
     // The reader stands in front of what can fail, or its room would be cleared once more.
     let mut reader = ConditionReader::new(alloc);
-    let text = read_text(text)?;
-    let condition = read_condition(&mut reader, text)?;
+    let (condition, offset) = read_condition(&mut reader, text)?;
     let located = condition.located_predicates();
     let (step_count, count) = (condition.step_count(), located.left());
     if step_count > steps.len() || count > predicates.len() {
         return Ok((step_count, count));
     }
     condition.write_steps(&mut steps[..step_count]);
-    write_predicates(text, located, predicates);
+    write_predicates(located, offset, predicates);
     Ok((step_count, count))
 }
 

@@ -15,7 +15,6 @@ use crate::reading::read_text;
 use crate::status::{DONE, FAULTY, OUT_OF_MEMORY};
 use cfg_expr::error::Failure;
 use cfg_expr::expr::ConditionReader;
-use cfgx_syntax::stripping::strip;
 use std::alloc::Global;
 
 /// Explains what is wrong with a text. Returns the status `FAULTY` if the text has a fault, and
@@ -42,12 +41,12 @@ pub extern "C" fn cfgx_explain(
 {
     *needed = 0;
     *fault = CfgxFault::default();
-    let text = match read_text(text) {
-        Ok(text) => text,
+    let stripped = match read_text(text) {
+        Ok(stripped) => stripped,
         Err(refusal) => return refusal.report(fault),
     };
     let mut reader = ConditionReader::new(alloc);
-    let error = match reader.read(text) {
+    let error = match reader.read_stripped(stripped) {
         Ok(_) => return DONE,
         Err(Failure::Parse(error)) => error,
         Err(Failure::Memory(_)) => return OUT_OF_MEMORY,
@@ -56,6 +55,6 @@ pub extern "C" fn cfgx_explain(
         return OUT_OF_MEMORY;
     };
     *needed = fill(message, printed.as_bytes());
-    *fault = CfgxFault::of(0, strip(text).offset, &error);
+    *fault = CfgxFault::of(0, stripped.offset, &error);
     FAULTY
 }

@@ -3,7 +3,6 @@
 ghost use Rattle.std.specs.Prelude.{◌≡◌, ◌≢◌, ◌≤◌, ◌<◌, ◌+◌, ◌^◌, ◌++◌, ℕ, List, []};
 ghost use Rattle.std.specs.Prelude.{◌∷◌, IfErr, IfOk, IfSome, OnErr, drop, length, map};
 ghost use Rattle.std.specs.Str.{IsUtf8};
-ghost use Rattle.cfgx_syntax.specs.Stripping.{strip, strip_offset};
 ghost use Rattle.cfgx_parser.specs.Located.{HasCut};
 ghost use Rattle.cfg_expr.specs.Located.{AreLocated};
 ghost use Rattle.cfgx_c.specs.Buffer.{Fills};
@@ -15,13 +14,12 @@ ghost use Rattle.cfgx_c.specs.declared.predicates.CfgxPredicate.{CfgxPredicate};
 ghost use Rattle.cfgx_c.specs.internal.Refusals.{RefusesText, text_statuses};
 
 use crate::fault::{CfgxFault, Refusal};
-use crate::reading::{read_condition, read_text};
+use crate::reading::read_condition;
 use crate::status::DONE;
 use cfg_expr::expr::{
     Asked, AskedTarget, ConditionReader, LocatedPredicate, LocatedPredicates, Span,
 };
 use cfg_expr::targets::HasAtomic;
-use cfgx_syntax::stripping::strip;
 use std::alloc::Global;
 
 /// A predicate of a condition. Spans are in bytes of the text as it was passed.
@@ -101,18 +99,19 @@ fn c_predicate(predicate: LocatedPredicate, offset: usize) -> CfgxPredicate
     }
 }
 
-/// Writes the predicates of `text` to the start of `buffer`, which has room for them.
+/// Writes the predicates of a text to the start of `buffer`, which has room for them. `offset`
+/// bytes were stripped before the text.
 pub(crate) fn write_predicates(
-    text: &str,
     predicates: LocatedPredicates<'_>,
+    offset: usize,
     buffer: &mut [CfgxPredicate],
 )
     requires room { length predicates ≤ length buffer.old }
-    requires located { AreLocated (strip text.now) predicates }
-    ensures { buffer.new ≡ map (c_predicate (strip_offset text.now)) predicates.entry
+    requires located { (text : List ℕ) × AreLocated text predicates
+        × (length text + offset < 2 ^ 64) }
+    ensures { buffer.new ≡ map (c_predicate offset) predicates.entry
         ++ drop (length predicates.entry) buffer.old }
 {
-    let offset = strip(text).offset;
     let mut written = 0;
     for predicate in predicates {
         buffer[written] = c_predicate(predicate, offset);
@@ -135,14 +134,13 @@ fn fill_predicates(
 {
     // The reader stands in front of what can fail, or its room would be cleared once more.
     let mut reader = ConditionReader::new(alloc);
-    let text = read_text(text)?;
-    let condition = read_condition(&mut reader, text)?;
+    let (condition, offset) = read_condition(&mut reader, text)?;
     let predicates = condition.located_predicates();
     let needed = predicates.left();
     if needed > buffer.len() {
         return Ok(needed);
     }
-    write_predicates(text, predicates, buffer);
+    write_predicates(predicates, offset, buffer);
     Ok(needed)
 }
 

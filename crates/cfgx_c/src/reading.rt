@@ -3,15 +3,14 @@
 ghost use Rattle.std.specs.Prelude.{◌≡◌, ◌+◌, ◌<◌, ◌^◌, ◌∷◌, IfErr, IfOk, length};
 ghost use Rattle.std.specs.List.{All, AllZip};
 ghost use Rattle.std.specs.Str.{IsUtf8};
-ghost use Rattle.cfgx_syntax.specs.Stripping.{strip};
-ghost use Rattle.cfgx_grammar.specs.Answer.{HasOneTree};
+ghost use Rattle.cfgx_syntax.specs.Stripping.{strip, strip_offset};
 ghost use Rattle.cfg_expr.specs.Given.{AreAnswersTo};
 ghost use Rattle.cfgx_engine.specs.Facts.{IsRustcFact, NameAlike, texts_of};
 ghost use Rattle.cfgx_c.specs.Ends.{AreEnds, parts};
-ghost use Rattle.cfgx_c.specs.Faults.{HasFactFault, fact_offset};
+ghost use Rattle.cfgx_c.specs.Faults.{HasFactFault, IsCondition, fact_offset};
 ghost use Rattle.cfgx_c.specs.Status.{faulty_fact, miscounted, not_utf8};
 ghost use Rattle.cfgx_c.specs.Value.{HasOtherCount};
-ghost use Rattle.cfgx_c.specs.internal.Refusals.{IsAbout, IsFirstFrom};
+ghost use Rattle.cfgx_c.specs.internal.Refusals.{IsAbout, IsFirstFrom, IsStripped};
 ghost use Rattle.cfgx_c.specs.internal.Refusals.{RefusesText, text_refusal, text_statuses, views};
 
 use crate::fault::{CfgxFault, Refusal};
@@ -19,19 +18,19 @@ use crate::status::{FAULTY, FAULTY_FACT, MISCOUNTED, NOT_UTF8, OUT_OF_MEMORY};
 use cfg_expr::error::Failure;
 use cfg_expr::expr::{Condition, ConditionReader};
 use cfgx_engine::resolve::{Facts, FactsError};
-use cfgx_syntax::stripping::strip;
+use cfgx_syntax::stripping::{Stripped, strip};
 use std::alloc::Global;
 
-/// Returns the only text of a call.
+/// Returns the only text of a call, stripped.
 ///
 /// The error is about the text.
-pub(crate) fn read_text(text: &[u8]) -> Result<&str, Refusal>
-    ensures ok { IfOk result (λ read. (read.now ≡ text.now) × IsUtf8 text.now) }
+pub(crate) fn read_text(text: &[u8]) -> Result<Stripped<'_>, Refusal>
+    ensures ok { IfOk result (λ stripped. IsStripped text.now stripped × IsUtf8 text.now) }
     ensures err { IfErr result (RefusesText text.now text_statuses) }
     ensures status { IfErr result (λ refusal. refusal.status ≡ not_utf8) }
 {
     match str::from_utf8(text) {
-        Ok(text) => Ok(text),
+        Ok(text) => Ok(strip(text)),
         Err(error) => Err(Refusal {
             status: NOT_UTF8,
             fault: CfgxFault::at_byte(0, error.valid_up_to()),
@@ -39,35 +38,38 @@ pub(crate) fn read_text(text: &[u8]) -> Result<&str, Refusal>
     }
 }
 
-/// Returns why the text with this number cannot be read.
-pub(crate) fn text_refusal(item: usize, text: &str, failure: Failure) -> Refusal
-    ensures { result ≡ text_refusal item text.now failure }
+/// Returns why the text with this number cannot be read. `offset` bytes stand before the stripped
+/// text.
+pub(crate) fn text_refusal(item: usize, offset: usize, failure: Failure) -> Refusal
+    ensures { result ≡ text_refusal item offset failure }
 {
     match failure {
         Failure::Parse(error) => Refusal {
             status: FAULTY,
-            fault: CfgxFault::of(item, strip(text).offset, &error),
+            fault: CfgxFault::of(item, offset, &error),
         },
         Failure::Memory(_) => Refusal::plain(OUT_OF_MEMORY),
     }
 }
 
-/// Reads the only text of a call as a condition.
+/// Reads the only text of a call as a condition. Returns it, and how many bytes stand before the
+/// stripped text.
 ///
 /// The error is about the text, or memory was refused.
 // A call would copy the condition out of its result.
 #[inline(always)]
 pub(crate) fn read_condition<'r, 'a>(
     reader: &'r mut ConditionReader<'a>,
-    text: &'a str,
-) -> Result<Condition<'r>, Refusal>
-    ensures ok { IfOk result (λ condition. (condition ≡ strip text.now)
-        × HasOneTree (strip text.now)) }
+    text: &'a [u8],
+) -> Result<(Condition<'r>, usize), Refusal>
+    ensures ok { IfOk result (λ read. (read.0 ≡ strip text.now) × (read.1 ≡ strip_offset text.now)
+        × IsCondition text.now) }
     ensures err { IfErr result (RefusesText text.now text_statuses) }
 {
-    match reader.read(text) {
-        Ok(condition) => Ok(condition),
-        Err(failure) => Err(text_refusal(0, text, failure)),
+    let stripped = read_text(text)?;
+    match reader.read_stripped(stripped) {
+        Ok(condition) => Ok((condition, stripped.offset)),
+        Err(failure) => Err(text_refusal(0, stripped.offset, failure)),
     }
 }
 
@@ -85,14 +87,15 @@ pub(crate) fn read_answered<'r, 'a>(
     ensures other_count { IfErr result (λ refusal. refusal.status ≡ miscounted
         → HasOtherCount (strip text.now) answers.now) }
 {
-    let condition = read_condition(reader, read_text(text)?)?;
+    let (condition, _) = read_condition(reader, text)?;
     if condition.predicates().left() != answers.len() {
         return Err(Refusal::plain(MISCOUNTED));
     }
     Ok(condition)
 }
 
-/// Returns how many bytes stand before the stripped text of a fact.
+/// Returns how many bytes stand before the stripped text of a fact, which `Facts` has stripped and
+/// does not say.
 fn fact_offset(fact: &str) -> usize
     ensures { result ≡ fact_offset fact.now }
 {

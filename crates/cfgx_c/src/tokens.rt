@@ -16,7 +16,7 @@ use crate::reading::read_text;
 use crate::status::{DONE, FAULTY, OUT_OF_MEMORY};
 use cfg_expr::error::{Failure, ParseError};
 use cfgx_syntax::lexer::{Lexer, LexerToken, Token};
-use cfgx_syntax::stripping::strip;
+use cfgx_syntax::stripping::Stripped;
 use std::alloc::{AllocError, Global};
 
 /// A token of a text. Its span is in bytes of the text as it was passed.
@@ -65,12 +65,16 @@ fn c_token(lexed: &LexerToken<'_>, offset: usize) -> CfgxToken
 /// Takes no memory for a text without one.
 ///
 /// The error is that `alloc` refused memory.
-fn count_tokens(alloc: Global, text: &str) -> Result<(usize, Option<ParseError>), AllocError>
+fn count_tokens(
+    alloc: Global,
+    stripped: Stripped<'_>,
+) -> Result<(usize, Option<ParseError>), AllocError>
     ensures { IfOk result (λ counted. (tokens : List CfgxToken)
-        × HasTokens text.now tokens counted.1 × (counted.0 ≡ length tokens)) }
+        × HasTokens stripped.entry.text.now stripped.entry.offset tokens counted.1
+        × (counted.0 ≡ length tokens)) }
 {
     let mut count = 0;
-    for lexed in Lexer::new(alloc, text) {
+    for lexed in Lexer::of_stripped(alloc, stripped) {
         match lexed {
             Ok(_) => count += 1,
             Err(Failure::Parse(error)) => return Ok((count, Some(error))),
@@ -82,17 +86,17 @@ fn count_tokens(alloc: Global, text: &str) -> Result<(usize, Option<ParseError>)
 
 /// Writes the tokens of a text up to its lexical fault. `buffer` has an item for each of them, so
 /// the lexer never comes to the fault, which would take memory.
-fn write_tokens(alloc: Global, text: &str, buffer: &mut [CfgxToken])
-    requires { HasTokenCount text.now (length buffer.old) }
-    ensures { AreTokens text.now buffer.new }
+fn write_tokens(alloc: Global, stripped: Stripped<'_>, buffer: &mut [CfgxToken])
+    requires counted { HasTokenCount stripped.text.now (length buffer.old) }
+    requires fits { length stripped.text.now + stripped.offset < 2 ^ 64 }
+    ensures { AreTokens stripped.entry.text.now stripped.entry.offset buffer.new }
 {
-    let offset = strip(text).offset;
-    let mut lexer = Lexer::new(alloc, text);
+    let mut lexer = Lexer::of_stripped(alloc, stripped);
     for i in 0..buffer.len() {
         let Some(Ok(lexed)) = lexer.next() else {
             unreachable!()
         };
-        buffer[i] = c_token(&lexed, offset);
+        buffer[i] = c_token(&lexed, stripped.offset);
     }
 }
 
@@ -103,16 +107,18 @@ fn write_tokens(alloc: Global, text: &str, buffer: &mut [CfgxToken])
 /// The error is that `alloc` refused memory.
 fn fill_tokens(
     alloc: Global,
-    text: &str,
+    stripped: Stripped<'_>,
     buffer: &mut [CfgxToken],
 ) -> Result<(usize, Option<ParseError>), AllocError>
+    requires { length stripped.text.now + stripped.offset < 2 ^ 64 }
     ensures ok { IfOk result (λ found. (tokens : List CfgxToken)
-        × HasTokens text.now tokens found.1 × Fills tokens buffer.old buffer.new found.0) }
+        × HasTokens stripped.entry.text.now stripped.entry.offset tokens found.1
+        × Fills tokens buffer.old buffer.new found.0) }
     ensures kept { OnErr result (buffer.new ≡ buffer.old) }
 {
-    let (count, error) = count_tokens(alloc, text)?;
+    let (count, error) = count_tokens(alloc, stripped)?;
     if count <= buffer.len() {
-        write_tokens(alloc, text, &mut buffer[..count]);
+        write_tokens(alloc, stripped, &mut buffer[..count]);
     }
     Ok((count, error))
 }
@@ -150,19 +156,18 @@ pub extern "C" fn cfgx_tokens(
     *needed = 0;
     *offset = 0;
     *fault = CfgxFault::default();
-    let text = match read_text(text) {
-        Ok(text) => text,
+    let stripped = match read_text(text) {
+        Ok(stripped) => stripped,
         Err(refusal) => return refusal.report(fault),
     };
-    let stripped = strip(text).offset;
-    *offset = stripped;
-    let Ok((count, error)) = fill_tokens(alloc, text, tokens) else {
+    *offset = stripped.offset;
+    let Ok((count, error)) = fill_tokens(alloc, stripped, tokens) else {
         return OUT_OF_MEMORY;
     };
     *needed = count;
     let Some(error) = error else {
         return DONE;
     };
-    *fault = CfgxFault::of(0, stripped, &error);
+    *fault = CfgxFault::of(0, stripped.offset, &error);
     FAULTY
 }

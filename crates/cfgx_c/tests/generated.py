@@ -60,8 +60,10 @@ def damaged(source):
 
 def noise(source):
     """Returns pieces of texts and bytes at random."""
-    parts = [source.choice(PIECES) if source.random() < 0.8 else source.randbytes(3)
-             for _ in range(source.randrange(12))]
+    parts = []
+    for _ in range(source.randrange(12)):
+        is_piece = source.random() < 0.8
+        parts.append(source.choice(PIECES) if is_piece else bytes(source.choices(range(256), k=3)))
     return b"".join(parts)
 
 

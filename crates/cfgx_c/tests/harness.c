@@ -16,8 +16,14 @@ static size_t rows = 0, refusals = 0, failures = 0;
 static struct text row_text;
 static struct list row_texts;
 
-/* The number of growths in a call, the one that is refused, and the blocks that are not freed. */
+/* The number of growths in a call, the one that is refused, and the blocks that are not freed. The
+ * compiler for Windows takes memory for a variable of a thread, so by the functions below. There
+ * only the thread of `main` refuses and expects. */
+#ifdef _WIN32
+static size_t growths = 0, refused = NONE, blocks = 0;
+#else
 static _Thread_local size_t growths = 0, refused = NONE, blocks = 0;
+#endif
 
 void *__real_malloc(size_t size);
 void *__real_realloc(void *block, size_t size);
@@ -320,7 +326,8 @@ void begin_row(struct text text)
 static void call_once(call_of_row *call, const void *row, size_t room, uint32_t status,
                       size_t number)
 {
-    growths = 0;
+    /* What runs before `main` may have taken blocks. */
+    growths = blocks = 0;
     refused = number;
     call(row, room, status);
     expect_number("the number of blocks that are left behind", blocks, 0);

@@ -12,9 +12,10 @@ None
 
 `None` is an unknown answer, and an unknown value.
 
-The package calls the engine in the shared object `libcfgx.so.2.3`, which it loads when it is
-imported: the file that the environment variable `CFGX_LIBRARY` names, else the one in the folder of
-the package, else the one that the loader finds. `ImportError` says what to do if there is none.
+The package calls the engine in the shared object `libcfgx.so.2.3`, on macOS `libcfgx.dylib` and on
+Windows `cfgx.dll`. It loads this when it is imported: the file that the environment variable
+`CFGX_LIBRARY` names, else the one in the folder of the package, else the one that the loader finds.
+`ImportError` says what to do if there is none.
 `__version__` is the version of the package, and `version()` that of the library.
 
 Every call raises `MemoryError` if the engine gets no memory, and `UnicodeEncodeError` for a `str`

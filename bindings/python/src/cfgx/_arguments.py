@@ -18,8 +18,8 @@ EPILOG = (
     " manifest cannot be read, something else fails, or values were not tried out."
 )
 FORMATS = ("table", "json", "tsv", "sarif")
-# The parts of a list, also one of flags, whose values may have commas.
-FLAG = re.compile(r'(?:[^,"]|"[^"]*"?)+')
+# A part of a list of flags: a text in quotes, which may have commas, a comma, or other text.
+PART = re.compile(r'"[^"]*"?|,|[^",]+')
 
 Parser = TypeVar("Parser", bound=argparse.ArgumentParser)
 
@@ -31,7 +31,13 @@ def listed(text: str) -> List[str]:
 
 def flags(text: str) -> List[str]:
     """Returns the flags of a list. A comma in quotes is one of a value."""
-    return FLAG.findall(text) or [text]
+    found = [""]
+    for part in PART.findall(text):
+        if part == ",":
+            found.append("")
+        else:
+            found[-1] += part
+    return found
 
 
 def features(text: str) -> List[str]:

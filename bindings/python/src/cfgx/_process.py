@@ -127,7 +127,9 @@ def ended(process: "subprocess.Popen[bytes]", limits: Limits) -> Ended:
     for printed in both:
         printed.start()
     for _ in both:
-        expect_whole(next_read(done, end, limits))
+        printed = next_read(done, end, limits)
+        printed.join()
+        expect_whole(printed)
     status = waited_for(process, end, limits)
     stdout, stderr = (b"".join(printed.pieces) for printed in both)
     return Ended(status, stdout, stderr)

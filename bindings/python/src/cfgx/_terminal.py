@@ -13,8 +13,8 @@ JAMO = (range(0x1160, 0x1200), range(0xD7B0, 0xD800))
 # The categories of characters that take no cell of their own: marks over the one before them, and
 # invisible ones.
 WITHOUT_CELL = ("Mn", "Me", "Cf")
-# The escapes that begin a colour, end it, and clear the rest of a line.
-BEGIN, END, CLEAR = "\x1b[{}m", "\x1b[0m", "\x1b[K"
+# The escapes that begin a colour and end it.
+BEGIN, END = "\x1b[{}m", "\x1b[0m"
 
 
 class ShownError(Exception):
@@ -124,14 +124,18 @@ class Progress:
     def __init__(self, stream: Optional[TextIO], what: str) -> None:
         self._stream = stream if is_terminal(stream) else None
         self._what = what
+        self._shown = ""
 
     def __call__(self, done: int, count: int) -> None:
-        """Shows that so many of a number are done."""
-        self._write(f"\r{self._what}: {done} of {count}{CLEAR}")
+        """Shows that so many of a number are done. The number that is done does not fall."""
+        self._shown = f"{self._what}: {done} of {count}"
+        self._write(f"\r{self._shown}")
 
     def clear(self) -> None:
-        """Clears the line."""
-        self._write(f"\r{CLEAR}")
+        """Clears the line, if there is one."""
+        if self._shown:
+            self._write(f"\r{' ' * cells_of(self._shown)}\r")
+            self._shown = ""
 
     def _write(self, text: str) -> None:
         """Writes a text. If that fails, nothing is shown from now on."""

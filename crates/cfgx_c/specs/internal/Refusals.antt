@@ -2,7 +2,8 @@
 use Rattle.std.specs.Prelude.{◌≡◌, ◌≢◌, ◌⊎◌, ◌+◌, ℕ, List, [], ◌∷◌, map}
 use Rattle.std.specs.{Borrow.Bor, Str.IsUtf8}
 use Rattle.cfgx_syntax.specs.Error.{Fault, cause_of}
-use Rattle.cfgx_syntax.specs.Stripping.{strip_offset}
+use Rattle.cfgx_syntax.specs.Stripping.{strip, strip_offset}
+use Rattle.cfgx_syntax.specs.declared.stripping.Stripped.{Stripped}
 use Rattle.cfgx_syntax.specs.declared.error.Failure.{Failure}
 use Rattle.cfgx_syntax.specs.declared.error.Failure.TheVariants as failure
 use Rattle.cfgx_syntax.specs.declared.error.ParseError.{ParseError}
@@ -10,6 +11,11 @@ use Rattle.cfgx_c.specs.Faults.{IsFirst, Tells, c_fault, no_fault}
 use Rattle.cfgx_c.specs.Status.{IsOneOf, faulty, faulty_fact, not_utf8, out_of_memory}
 use Rattle.cfgx_c.specs.declared.fault.CfgxFault.{CfgxFault}
 use Rattle.cfgx_c.specs.declared.fault.Refusal.{Refusal}
+
+-- this is left of the text without its outer `cfg( )`
+pub record IsStripped (text : List ℕ) (stripped : Stripped) : Type 0 where
+  pub text_is : stripped.text.now ≡ strip text
+  pub offset_is : stripped.offset ≡ strip_offset text
 
 -- what slices hold, without where they lie in memory
 abbrev pub views : {T : Type 0} → List (Bor T) → List T
@@ -27,13 +33,13 @@ fault_at error = record {
   end = error.span.end;
 }
 
--- why the text with this number cannot be read
-abbrev pub text_refusal : {A : Type 0} → ℕ → List ℕ → Failure A → Refusal
-text_refusal item text (failure.Parse error) = record {
+-- why the text with this number cannot be read; `offset` bytes stand before the stripped text
+abbrev pub text_refusal : {A : Type 0} → ℕ → ℕ → Failure A → Refusal
+text_refusal item offset (failure.Parse error) = record {
   status = faulty;
-  fault = c_fault item (strip_offset text) (fault_at error);
+  fault = c_fault item offset (fault_at error);
 }
-text_refusal item text (failure.Memory refused) = plain out_of_memory
+text_refusal item offset (failure.Memory refused) = plain out_of_memory
 
 -- the refusal has the status, and this is so of its fault; or memory was refused
 abbrev pub IsAbout : ℕ → (CfgxFault → Type 0) → Refusal → Type 0

@@ -39,7 +39,7 @@ def of_row(file: File, row: Row) -> Iterator[Finding]:
     if row.verdict is Verdict.FAULTY and one.problem is not None:
         text = f"rustc refuses this condition: {one.problem.reason.value}"
         yield Finding(FAULTY, file.path, one.problem.place, written(file, one), text)
-    if row.verdict is Verdict.NEVER and row.within is None:
+    if row.verdict is Verdict.NEVER and row.within is None and not file.is_never:
         text = f"never true: {one.text}{around(one)}"
         yield Finding(NEVER, file.path, one.place, written(file, one), text)
 

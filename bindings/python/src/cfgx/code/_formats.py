@@ -59,7 +59,7 @@ def file_entry(file: File, only: Sequence[str], answered: Answered) -> Dict[str,
     if file.code.unread is not None and file.code.unread_from is not None:
         unread = {"message": file.code.unread, **place_members(file.code.unread_from)}
     return {
-        "path": file.path, "unread": unread,
+        "path": file.path, "context": list(file.context), "unread": unread,
         "conditions": [row_entry(row, answered) for row in chosen_rows(file, frozenset(only))],
         "groups": [group_entry(row, answered) for row in file.groups],
     }

@@ -6,7 +6,7 @@ with the name of each raw identifier. It refuses what rustc refuses.
 """
 import dataclasses
 import re
-from typing import Iterable, List, NamedTuple, Optional, Sequence, Tuple
+from typing import Iterator, List, NamedTuple, Optional, Sequence
 
 from ._lexer import Kind, Token
 from ._model import Reason
@@ -76,19 +76,17 @@ class Written(NamedTuple):
     """Its text."""
     pieces: Sequence[Piece]
     """Of which tokens it was made."""
-    behind: int
-    """How many tokens it has, with those that end it."""
 
 
 class Reader:
     """Reads a condition from tokens."""
 
-    def __init__(self, text: str, tokens: Sequence[Token], end: int) -> None:
+    def __init__(self, text: str, tokens: Iterator[Token], end: int) -> None:
         """`end` is the place behind the tokens."""
         self._text = text
         self._tokens = tokens
         self._end = end
-        self._next = 0
+        self._token = next(tokens, None)
         self._open: List[Open] = []
         self._parts: List[str] = []
         self._pieces: List[Piece] = []
@@ -102,32 +100,36 @@ class Reader:
             if self._has_member():
                 self._member()
         self._ended(ends)
-        return Written("".join(self._parts), self._pieces, self._next)
+        return Written("".join(self._parts), self._pieces)
 
     def _ended(self, ends: Sequence[str]) -> None:
         """Passes what ends the condition."""
         if ends:
             if self._word() not in ends:
                 raise self._refused()
-            self._next += 1
+            self._step()
             return
         if self._word() == ",":
-            self._next += 1
-        if self._next < len(self._tokens):
+            self._step()
+        if self._token is not None:
             raise self._refused(Reason.ROOTS)
 
     def _word(self) -> str:
         """Returns the text of the next token, which is empty at the end."""
-        token = self._token()
+        token = self._token
         return "" if token is None else self._text[token.start:token.end]
 
-    def _token(self) -> Optional[Token]:
-        """Returns the next token, or `None` at the end."""
-        return self._tokens[self._next] if self._next < len(self._tokens) else None
+    def _step(self) -> Token:
+        """Passes the next token, and returns it."""
+        token = self._token
+        if token is None:
+            raise self._refused()
+        self._token = next(self._tokens, None)
+        return token
 
     def _refused(self, reason: Reason = Reason.UNEXPECTED) -> ConditionError:
         """Returns the error at the next token."""
-        token = self._token()
+        token = self._token
         if token is None:
             reason = Reason.ROOTS if not self._parts else Reason.UNEXPECTED
             return ConditionError(reason, self._end, self._end)
@@ -143,10 +145,10 @@ class Reader:
 
     def _member(self) -> None:
         """Reads a member of a function, or the start of one."""
-        token, word = self._token(), self._word()
+        token, word = self._token, self._word()
         if token is None or not is_name(token, word):
             raise self._refused()
-        self._next += 1
+        self._step()
         name = word[2:] if token.kind is Kind.RAW_WORD else word
         if self._open:
             self._open[-1].members += 1
@@ -171,15 +173,13 @@ class Reader:
             reason = Reason.FUNCTION if name in OTHER_FUNCTIONS else Reason.UNKNOWN
             raise ConditionError(reason, token.start, token.end)
         self._put(name, token)
-        self._put("(", self._tokens[self._next])
-        self._next += 1
+        self._put("(", self._step())
         self._open.append(Open(name, token.start))
 
     def _value(self) -> None:
         """Reads a value, behind its name."""
-        self._put(" = ", self._tokens[self._next])
-        self._next += 1
-        token = self._token()
+        self._put(" = ", self._step())
+        token = self._token
         if token is None or token.kind not in (Kind.STRING, Kind.RAW_STRING):
             is_literal = token is not None and token.kind is Kind.LITERAL
             raise self._refused(Reason.VALUE if is_literal else Reason.UNEXPECTED)
@@ -187,29 +187,27 @@ class Reader:
         if value is None or '"' in value:
             reason = Reason.VALUE if value is None else Reason.QUOTE
             raise ConditionError(reason, token.start, token.end)
-        self._put(f'"{value}"', token)
-        self._next += 1
+        self._put(f'"{value}"', self._step())
 
     def _has_member(self) -> bool:
         """Whether the innermost function has one more member, whose start is next. If it has none,
         the `)` that ends it is passed."""
         word, has_members = self._word(), self._open[-1].members > 0
         if word == "," and has_members:
-            self._next += 1
+            comma = self._step()
             word = self._word()
             if word != ")":
-                self._put(", ", self._tokens[self._next - 1])
+                self._put(", ", comma)
                 return True
         elif word != ")" and not has_members:
             return True
         if word != ")":
             raise self._refused()
-        self._ended_function(self._tokens[self._next])
+        self._ended_function(self._step())
         return False
 
     def _ended_function(self, token: Token) -> None:
         """Ends the innermost function by a `)`."""
-        self._next += 1
         ended = self._open.pop()
         if ended.name == "not" and ended.members != 1:
             raise ConditionError(Reason.MEMBERS, ended.start, token.end)
@@ -270,9 +268,9 @@ def part_of(found: "re.Match[str]") -> Optional[str]:
 
 
 def read_condition(
-    text: str, tokens: Iterable[Token], end: int, ends: Sequence[str] = ()
+    text: str, tokens: Iterator[Token], end: int, ends: Sequence[str] = ()
 ) -> Written:
     """Returns the condition that tokens begin with, up to the place `end`. One of the tokens `ends`
-    ends it or, if there are none, the last token, in front of which a `,` may stand. Raises
-    `ConditionError`."""
-    return Reader(text, tuple(tokens), end).read(ends)
+    ends it or, if there are none, the last token, in front of which a `,` may stand. No token is
+    asked for behind one that is wrong. Raises `ConditionError`."""
+    return Reader(text, tokens, end).read(ends)

@@ -56,11 +56,14 @@ SKIMMED = re.compile(
     rf"|'(?<![{WORD}]')[^\\'\n]'(?![{WORD}])|'(?<![{WORD}]')[{WORD}]+(?!['#{WORD}])"
     r"|(?P<block>/\*)|(?P<string>\")|(?P<character>')|(?P<pound>#)"
     rf"|(?P<name>cfg(?<![{WORD}]cfg)(?:_if|_select)?(?![{WORD}]))"
+    rf"|(?P<module>mod(?<![{WORD}]mod)(?=[{SPACE}]+(?:r#)?[{START}][{WORD}]*[{SPACE}]*;))"
 )
-OPEN, CLOSE, BLOCK, STRING, CHARACTER, POUND, NAME = (
+OPEN, CLOSE, BLOCK, STRING, CHARACTER, POUND, NAME, MODULE = (
     SKIMMED.groupindex[name]
-    for name in ("open", "close", "block", "string", "character", "pound", "name")
+    for name in ("open", "close", "block", "string", "character", "pound", "name", "module")
 )
+# In how many groups at most a module that has a file of its own may stand.
+MOST_AROUND = 32
 # An attribute of another name, which needs no closer look.
 OTHER_ATTRIBUTE = re.compile(r"#!?\[(?!r#|cfg)[A-Za-z_]")
 # The word at the end of a text.
@@ -248,6 +251,8 @@ class Skim:
         # Where `#` and the names of macros stand, and the numbers of the groups around them.
         self.pounds: List[Tuple[int, int]] = []
         self.names: List[Tuple[int, int]] = []
+        # Where modules begin that have a file of their own, and the groups around them.
+        self.modules: List[Tuple[int, Tuple[int, ...]]] = []
         self.problem: Optional[TokenError] = None
         self._open = array("q")
         # Behind the last literal that has no usual form.
@@ -278,16 +283,19 @@ class Skim:
                 if not opened or PAIRS[text[starts[opened[-1]]]] != text[start]:
                     raise TokenError(start, "a delimiter is closed that is not open")
                 ends[opened.pop()] = start
-            elif group in (NAME, POUND):
+            elif group in (NAME, POUND, MODULE):
                 self._marked(group, start)
             else:
                 return self._past(group, start)
         return None
 
     def _marked(self, group: int, place: int) -> None:
-        """Keeps the place of a `#` or of the name of a macro."""
+        """Keeps the place of a `#`, of the name of a macro or of a module."""
         around = self._open[-1] if self._open else -1
-        if group == NAME:
+        if group == MODULE:
+            if len(self._open) <= MOST_AROUND:
+                self.modules.append((place, tuple(self.starts[one] for one in self._open)))
+        elif group == NAME:
             self.names.append((place, around))
         elif OTHER_ATTRIBUTE.match(self.text, place) is None:
             self.pounds.append((place, around))

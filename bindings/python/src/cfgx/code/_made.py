@@ -3,7 +3,9 @@ from typing import Dict, Iterator, List, Optional, Tuple
 
 from . import _reader
 from ._lexer import MARK
-from ._model import Code, Condition, Group, Guard, Item, Piece, Place, Places, Problem
+from ._model import (
+    Code, Condition, Group, Guard, Item, Module, Piece, Place, Places, Problem,
+)
 
 
 def read(text: str) -> Code:
@@ -36,7 +38,8 @@ class Maker:
         groups = [*map(self._chain, self._reading.chains), *map(self._twins, self._reading.twins)]
         return Code(
             tuple(self._condition(one) for one in self._order),
-            tuple(sorted(groups, key=lambda group: group.place)),
+            tuple(sorted(groups, key=lambda group: group.place.start)),
+            tuple(map(self._module, self._reading.modules)),
             None if problem is None else str(problem),
             None if problem is None else self._places.place(problem.place, problem.place),
         )
@@ -53,6 +56,7 @@ class Maker:
             yield chain.start
         for twins in self._reading.twins:
             yield from (member.thing.start for member in twins.members)
+        yield from (one.start for one in self._reading.modules)
         if self._reading.problem is not None:
             yield self._reading.problem.place
 
@@ -86,6 +90,11 @@ class Maker:
             made = Guard(text, self._numbers[one.number], one.is_negated, made)
             self._guards[id(one)] = one, made
         return made
+
+    def _module(self, one: _reader.Declared) -> Module:
+        """Returns a module that has a file of its own."""
+        return Module(one.name, one.folders, one.paths, one.has_usual_path,
+                      self._point(one.start), self._guard(one.guard))
 
     def _point(self, character: int) -> Place:
         """Returns the place at a character."""

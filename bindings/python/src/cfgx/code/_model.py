@@ -169,6 +169,23 @@ class Group:
     """The innermost of what has to hold around it."""
 
 
+class Module(NamedTuple):
+    """A module that has a file of its own."""
+
+    name: str
+    """Its name."""
+    folders: Tuple[str, ...]
+    """The names of the modules around it in the same file, from the outside in."""
+    paths: Tuple[str, ...]
+    """The paths that attributes give it."""
+    has_usual_path: bool
+    """Whether its file may also be the one that its name says."""
+    place: Place
+    """Where it begins."""
+    guard: Optional[Guard]
+    """The innermost of what has to hold for it to be there."""
+
+
 @dataclasses.dataclass(frozen=True)
 class Code:
     """What was read of a file."""
@@ -177,6 +194,8 @@ class Code:
     """The conditions in the order of their places."""
     groups: Tuple[Group, ...]
     """What belongs together, in the order of places."""
+    modules: Tuple[Module, ...]
+    """The modules that have a file of their own."""
     unread: Optional[str]
     """Why the rest of the file was not read, or `None` if all was."""
     unread_from: Optional[Place]

@@ -4,6 +4,7 @@ A *guard* is a condition that has to hold for a piece of the code to be compiled
 inside of one another, as the pieces do.
 """
 import heapq
+import re
 from bisect import bisect_right
 from typing import Dict, Iterable, Iterator, List, NamedTuple, Optional, Sequence, Set, Tuple
 
@@ -18,6 +19,15 @@ from ._things import SPACES, Cursor, Space, Thing, pass_arm, thing_at
 
 # How many `cfg_attr` inside of one another tell what an attribute stands on when it is there.
 MOST_NESTED = 16
+# White space, and a variable of a macro.
+BLANK, VARIABLE = "\t\n\x0b\x0c\r \x85\u200e\u200f\u2028\u2029", re.compile(r"\$")
+# How many characters in front of a module have its attributes, and those of a group a name.
+MOST_FRONT = 2000
+# The name of a module, in front of its group.
+INLINE = re.compile(r"\bmod\s+(?:r#)?(\w+)\s*\Z")
+# What ends the item before, and the paths that attributes have.
+ENDING = re.compile(r"[;{}]")
+PATH, OWN_PATH = re.compile(r'\bpath\s*=\s*"([^"\\]*)"'), re.compile(r"#\s*\[\s*path\b")
 
 
 ATTRIBUTES = {"cfg": Form.CFG, "cfg_attr": Form.CFG_ATTR}
@@ -92,6 +102,22 @@ class Twins(NamedTuple):
     """The innermost guard around the scope."""
 
 
+class Declared(NamedTuple):
+    """A module that has a file of its own."""
+
+    name: str
+    start: int
+    """Where it begins."""
+    folders: Tuple[str, ...]
+    """The names of the modules around it in the same file."""
+    paths: Tuple[str, ...]
+    """The paths that attributes give it."""
+    has_usual_path: bool
+    """Whether its file may also be the one that its name says."""
+    guard: Optional[Guard]
+    """The innermost guard of the module."""
+
+
 class Reading:
     """What was found in a text."""
 
@@ -103,10 +129,11 @@ class Reading:
         self.conditions: List[Found] = []
         self.chains: List[Chain] = []
         self.twins: List[Twins] = []
-        # Guards in the order of their starts. The guards at a place are the last one that begins
-        # there or before and does not end before, and those around it.
+        self.modules: List[Declared] = []
+        # From which places on which guard is the innermost one, in order; and that of now.
         self._starts: List[int] = []
-        self._guards: List[Guard] = []
+        self._guards: List[Optional[Guard]] = []
+        self._now: Optional[Guard] = None
         # The guards of the branches that are yet to come.
         self._waiting: List[Tuple[int, int, Guard]] = []
         # The places of attributes that were read with one before them.
@@ -136,8 +163,10 @@ class Reading:
         while self._waiting:
             start, _, guard = heapq.heappop(self._waiting)
             self._begin(start, guard)
+        self._now_at(len(self.text))
         for scope, groups in self._scopes.items():
             self.twins += self._twins_in(scope, groups)
+        self.modules = [self._declared(*one) for one in self.skim.modules]
 
     def _end_of(self, group: int) -> int:
         """Returns where a group ends, or the text."""
@@ -145,27 +174,37 @@ class Reading:
 
     def _begin(self, start: int, guard: Guard) -> None:
         """Begins a guard."""
+        self._now_at(start)
         self._starts.append(start)
         self._guards.append(guard)
+        self._now = guard
+
+    def _now_at(self, place: int) -> Optional[Guard]:
+        """Returns the innermost guard at a place, which is that of the last call or a later one."""
+        while self._now is not None and self._now.end <= place:
+            self._starts.append(self._now.end)
+            self._now = self._now.outer
+            self._guards.append(self._now)
+        return self._now
 
     def _guard_at(self, place: int) -> Optional[Guard]:
-        """Returns the innermost guard at a place."""
+        """Returns the innermost guard at a place, when all were read."""
         number = bisect_right(self._starts, place) - 1
-        guard = self._guards[number] if number >= 0 else None
-        while guard is not None and guard.end <= place:
-            guard = guard.outer
-        return guard
+        return self._guards[number] if number >= 0 else None
 
-    def _add(
-        self, form: Form, tokens: Sequence[Token], end: int, guard: Optional[Guard],
-        is_inner: bool = False, ends: Sequence[str] = (),
+    def add(
+        self, form: Form, start: int, end: int, guard: Optional[Guard], is_inner: bool = False,
+        ends: Sequence[str] = (),
     ) -> Found:
-        """Adds the condition that tokens have, up to a place."""
-        shown = tokens[:-1] if ends else tokens
-        start, last = (shown[0].start, shown[-1].end) if shown else (end, end)
+        """Adds the condition in a piece of the text, which some tokens may end."""
+        first = following(self.text, start)
+        start = end if first is None else min(first.start, end)
+        last = start + len(self.text[start:end].rstrip(BLANK))
         written, error = None, None
+        tokens = tokens_in(self.text, start, len(self.text) if ends else end)
         try:
             written = read_condition(self.text, tokens, end, ends)
+            last = written.pieces[-1].token.end
         except ConditionError as caught:
             error = caught
         found = Found(form, is_inner, start, last, written, error, guard)
@@ -200,7 +239,7 @@ class Reading:
     def _read_meta(self, attribute: Attribute, meta: Meta, end: int) -> Iterator[Guard]:
         """Reads an attribute with a condition, and those inside of it. Yields what has to hold for
         what it stands on, which ends at a place."""
-        around = self._guard_at(attribute.start)
+        around = self._now_at(attribute.start)
         waiting: List[Tuple[Meta, Optional[Guard], int]] = [(meta, around, 0)]
         while waiting:
             one, guard, depth = waiting.pop()
@@ -210,7 +249,7 @@ class Reading:
                 inner = Guard(guard, one.end, found.text, number)
                 waiting += [(nested, inner, depth + 1) for nested in self._nested(one)][::-1]
             else:
-                yield Guard(self._guard_at(attribute.end), end,
+                yield Guard(self._now_at(attribute.end), end,
                             presence_of(found.text, guard, depth), number)
 
     def _read_one(self, meta: Meta, guard: Optional[Guard], attribute: Attribute) -> Found:
@@ -218,37 +257,34 @@ class Reading:
         form = ATTRIBUTES[plain(self.text, meta.name)]
         is_inner = attribute.is_inner
         if meta.inside is None:
-            tokens = list(tokens_in(self.text, meta.name.start, meta.end))
-            return self._refuse(form, tokens, meta.end, guard, is_inner)
+            return self._refuse(form, meta.name.start, meta.end, guard, is_inner)
         if form is Form.CFG:
-            tokens = list(tokens_in(self.text, meta.inside, meta.end))
             behind = following(self.text, meta.end + 1)
             if behind is not None and word_at(self.text, behind) not in ("]", ",", ")"):
-                return self._refuse(form, tokens, behind.start, guard, is_inner)
-            return self._add(form, tokens, meta.end, guard, is_inner)
+                return self._refuse(form, meta.inside, behind.start, guard, is_inner)
+            return self.add(form, meta.inside, meta.end, guard, is_inner)
         items = list_at(self.skim, meta.inside, meta.end)
-        tokens = list(tokens_in(self.text, meta.inside, items[0][1]))
         missing = [end for start, end in items[1:-1]
                    if next(tokens_in(self.text, start, end), None) is None]
         if len(items) == 1 or missing:
             place = missing[0] if missing else meta.end
-            return self._refuse(form, tokens, place, guard, is_inner)
-        return self._add(form, tokens, items[0][1], guard, is_inner)
+            return self._refuse(form, meta.inside, place, guard, is_inner)
+        return self.add(form, meta.inside, items[0][1], guard, is_inner)
 
     def _refuse(
-        self, form: Form, tokens: Sequence[Token], place: int, guard: Optional[Guard],
-        is_inner: bool,
+        self, form: Form, start: int, place: int, guard: Optional[Guard], is_inner: bool
     ) -> Found:
-        """Adds a condition that rustc refuses for what stands behind it, at a place."""
-        behind = following(self.text, place)
-        end = place if behind is None else behind.end
-        start, last = (tokens[0].start, tokens[-1].end) if tokens else (place, place)
-        is_variable = word_at(self.text, behind) == "$" or any(
-            word_at(self.text, one) == "$" for one in tokens
-        )
-        reason = Reason.VARIABLE if is_variable else Reason.UNEXPECTED if tokens else Reason.ROOTS
-        error = ConditionError(reason, place, end)
-        found = Found(form, is_inner, start, last, None, error, guard)
+        """Adds a condition that begins at a place, and that rustc refuses for what stands at
+        another one. Only the macro knows what a variable there stands for."""
+        first, behind = following(self.text, start), following(self.text, place)
+        start = place if first is None else min(first.start, place)
+        inside = self.text[start:place].rstrip(BLANK)
+        is_variable = word_at(self.text, behind) == "$" or VARIABLE.search(inside) is not None
+        reason = Reason.VARIABLE if is_variable else Reason.UNEXPECTED
+        if not inside or place == start or word_at(self.text, behind) == "]" and inside in ATTRIBUTES:
+            reason = Reason.VARIABLE if is_variable else Reason.ROOTS
+        error = ConditionError(reason, place, place if behind is None else behind.end)
+        found = Found(form, is_inner, start, start + len(inside), None, error, guard)
         self.conditions.append(found)
         return found
 
@@ -276,8 +312,7 @@ class Reading:
             return
         form, end = MACROS[word_at(self.text, name)], self.skim.end_of(opened.start)
         if form is Form.MACRO:
-            tokens = list(tokens_in(self.text, opened.end, end))
-            self._add(form, tokens, end, self._guard_at(place))
+            self.add(form, opened.end, end, self._now_at(place))
             return
         branches = Branches(self, place, group, form)
         read = branches.read_if if form is Form.CFG_IF else branches.read_select
@@ -309,16 +344,9 @@ class Reading:
         """Takes an attribute for one that was read."""
         self._read.add(place)
 
-    def add_condition(
-        self, form: Form, tokens: Sequence[Token], end: int, guard: Optional[Guard],
-        ends: Sequence[str] = (),
-    ) -> Found:
-        """Adds the condition of a branch."""
-        return self._add(form, tokens, end, guard, ends=ends)
-
-    def guard_at(self, place: int) -> Optional[Guard]:
-        """Returns the innermost guard at a place."""
-        return self._guard_at(place)
+    def now_at(self, place: int) -> Optional[Guard]:
+        """Returns the innermost guard at a place that is being read."""
+        return self._now_at(place)
 
     def _twins_in(self, scope: int, groups: Iterable[int]) -> Iterator[Twins]:
         """Yields the items of a scope that have one name, if one of them has a condition. The scope
@@ -348,7 +376,10 @@ class Reading:
         """Yields what stands in a group."""
         place, end = self._start_of(group), self._end_of(group)
         while place < end:
-            _, start = attributes_from(self.skim, place, end)
+            attributes, start = attributes_from(self.skim, place, end)
+            if attributes and attributes[0].is_inner:
+                place = start
+                continue
             try:
                 thing = thing_at(self.skim, start, end)
             except TokenError:
@@ -360,6 +391,16 @@ class Reading:
             if place <= start:
                 behind = following(self.text, start)
                 place = end if behind is None else behind.end
+
+    def _declared(self, place: int, around: Sequence[int]) -> Declared:
+        """Returns the module that begins at a place, in groups that begin at others."""
+        name = following(self.text, place + len("mod"))
+        fronts = (INLINE.search(self.text[max(0, one - MOST_FRONT):one]) for one in around)
+        front = ENDING.split(self.text[max(0, place - MOST_FRONT):place])[-1]
+        return Declared(
+            plain(self.text, name), place, tuple(one[1] for one in fronts if one is not None),
+            tuple(PATH.findall(front)), OWN_PATH.search(front) is None, self._guard_at(place),
+        )
 
     def _guard_of(self, thing: Thing) -> Optional[Guard]:
         """Returns the innermost guard of an item, with those inside of its body."""
@@ -379,7 +420,7 @@ class Branches:
         self._place = place
         self._group = group
         self._form = form
-        self._around = self._base = reading.guard_at(place)
+        self._around = self._base = reading.now_at(place)
         self._has_last = False
         self.numbers: List[int] = []
 
@@ -387,10 +428,10 @@ class Branches:
         """Returns what was read."""
         return Chain(self._form, self._place, self.numbers, self._has_last, self._around)
 
-    def _add(self, tokens: Sequence[Token], end: int, ends: Sequence[str] = ()) -> Found:
+    def _add(self, start: int, end: int, ends: Sequence[str] = ()) -> Found:
         """Adds the condition of a branch, which holds only if none before it does."""
         self.numbers.append(len(self._reading.conditions))
-        return self._reading.add_condition(self._form, tokens, end, self._base, ends)
+        return self._reading.add(self._form, start, end, self._base, ends=ends)
 
     def _branch(self, found: Optional[Found], start: int, end: int) -> None:
         """Begins the code of a branch. Without a condition, it is taken if no other one is."""
@@ -436,8 +477,7 @@ class Branches:
         if one is None or meta is None or meta.inside is None:
             return None, len(self._text)
         self._reading.mark_read(one.start)
-        tokens = list(tokens_in(self._text, meta.inside, meta.end))
-        return self._add(tokens, meta.end), one.end + 1
+        return self._add(meta.inside, meta.end), one.end + 1
 
     def read_select(self, place: int, end: int) -> None:
         """Reads the branches of `cfg_select!` up to a place."""
@@ -447,9 +487,9 @@ class Branches:
             arrow = next((one for one in level if word_at(self._text, one) == "=>"), None)
             if arrow is None:
                 return
-            tokens = list(tokens_in(self._text, place, arrow.end))
-            is_last = [word_at(self._text, one) for one in tokens] == ["_", "=>"]
-            found = None if is_last else self._add(tokens, arrow.start, ("=>",))
+            first = following(self._text, place)
+            is_last = word_at(self._text, first) == "_"
+            found = None if is_last else self._add(place, arrow.start, ("=>",))
             opened = following(self._text, arrow.end)
             cursor = Cursor(skim, arrow.end, end)
             pass_arm(cursor)

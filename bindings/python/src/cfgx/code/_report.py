@@ -14,12 +14,14 @@ from ._errors import PackageError, RequestError
 from ._folders import Passed, Source
 from ._made import read
 from ._model import Code
+from ._modules import Modules
 from ._values import Answer, GroupRow, Row, judged
 
 # The name that stands for all targets of the package's table.
 ALL = _platforms.ALL
-# What each file with a condition has. Most files have none, and need no closer look.
-WORD = "cfg"
+# What a file has with a condition, or with a module that has a file of its own. Other files need no
+# closer look.
+MATTERING = re.compile(r"cfg|\bmod\s+[\w#]+\s*;")
 # The facts that are the same in each build for a target.
 LASTING = re.compile(r"unix|windows|target_(?!feature\b).*", re.DOTALL)
 SYSTEM = re.compile(r'target_os="(.*)"')
@@ -40,6 +42,15 @@ class File:
     """Its conditions, in the order of their places."""
     groups: Tuple[GroupRow, ...]
     """What belongs together in it, in the order of places."""
+    context: Tuple[str, ...]
+    """What has to hold for the file to be compiled, as far as the modules say that lead to it."""
+    answer: Optional[Answer]
+    """Where this holds, or `None` if there is nothing that has to hold."""
+
+    @property
+    def is_never(self) -> bool:
+        """Whether it is compiled on none of the targets."""
+        return self.answer is not None and self.answer.is_never
 
 
 @dataclasses.dataclass(frozen=True)
@@ -138,13 +149,18 @@ def report_on(entries: Iterable[_folders.Entry], platforms: Sequence[Platform]) 
             passed.append(one)
             continue
         count += 1
-        code = read(one.text) if WORD in one.text else None
-        if code is not None and (code.conditions or code.unread):
+        if MATTERING.search(one.text):
             sources.append(one)
-            codes.append(code)
+            codes.append(read(one.text))
+    modules = Modules([one.path for one in sources], codes)
+    contexts = [modules.context(number) for number in range(len(codes))]
     files = [
-        File(source.path, source.text, code, tuple(rows), tuple(groups))
-        for source, code, (rows, groups) in zip(sources, codes, judged(codes, platforms))
+        File(source.path, source.text, code, tuple(found.rows), tuple(found.groups),
+             tuple(context), found.file)
+        for source, code, context, found in zip(
+            sources, codes, contexts, judged(codes, contexts, platforms)
+        )
+        if code.conditions or code.unread
     ]
     return Report(tuple(platforms), tuple(files), tuple(passed), count)
 

@@ -9,11 +9,12 @@ from ._findings import name_of
 from ._model import Guard, Place
 from ._names import CHOICES, NONE, TWO
 from ._report import File, Report, counted, systems_of
-from ._values import Answer, GroupRow, Row, Verdict
+from ._values import Answer, GroupRow, Row, Verdict, all_of
 
 # How many characters of a line are shown before a mark, and at most.
 BEFORE, MOST = 60, 160
-# How many systems, guards and reasons are told.
+# Up to how many targets each is named, and how many systems, guards and reasons are told.
+MOST_TARGETS = 16
 MOST_SYSTEMS, MOST_GUARDS, MOST_REASONS = 12, 8, 3
 COLOURS = {
     Verdict.NEVER: Colour.RED, Verdict.FAULTY: Colour.RED, Verdict.ALWAYS: Colour.YELLOW,
@@ -66,16 +67,15 @@ class Printer:
     def _file_lines(self, file: File) -> Iterator[str]:
         """Yields the lines on a file."""
         rows: List[Tuple[Place, Optional[Row], Optional[GroupRow]]] = [
-            (row.condition.place, row, None) for row in chosen_rows(file, self._only)
+            (place_of(row), row, None) for row in chosen_rows(file, self._only)
         ]
         rows += [(row.group.place, None, row) for row in file.groups]
         source = Lines(file.text)
-        for place, row, group in sorted(rows, key=lambda one: one[0].start):
+        for _, row, group in sorted(rows, key=lambda one: one[0].start):
             if row is not None:
                 yield from self._row_lines(file, row, source)
-            for what, answer in [] if group is None else self._told(group):
-                yield from self._group_lines(file, what, group, answer, source)
-            del place
+            if group is not None:
+                yield from self._group_lines(file, group, source)
         if file.code.unread is not None and file.code.unread_from is not None:
             place = file.code.unread_from
             yield shown(f"{file.path}:{place.line}:{place.column}: {file.code.unread}, and the rest"
@@ -84,12 +84,10 @@ class Printer:
 
     def _row_lines(self, file: File, row: Row, source: Lines) -> Iterator[str]:
         """Yields the lines on a condition."""
-        one = row.condition
-        word = row.verdict.value
+        place, word = place_of(row), row.verdict.value
         if self._has_colours and row.verdict in COLOURS:
             word = coloured(word, COLOURS[row.verdict])
-        yield f"{shown(file.path)}:{one.place.line}:{one.place.column}: {word}"
-        place = one.place if one.problem is None else one.problem.place
+        yield f"{shown(file.path)}:{place.line}:{place.column}: {word}"
         yield from marked(place, source)
         for note in self._notes(file, row):
             yield from wrapped(shown(f"    {note}"), self._width)
@@ -102,11 +100,15 @@ class Printer:
             yield one.problem.reason.value
         if row.answer is not None and row.verdict in (Verdict.PLATFORMS, Verdict.DEPENDS):
             yield from self._values(row.answer)
-        if row.within is not None:
+        if file.is_never:
+            yield f"its file is compiled on no target: {all_of(file.context)}"
+        elif row.within is not None:
             line = file.code.conditions[row.within].place.line
             yield f"it stands in what is never true, from line {line} on"
         elif one.guard is not None:
             yield f"inside of {guards_of(file, one.guard)}"
+        if file.context and not file.is_never:
+            yield f"its file is compiled where {all_of(file.context)}"
         if row.is_partial:
             yield "a condition around it was not read, so it may be true on fewer targets"
         if row.verdict is Verdict.NOT_TRIED:
@@ -127,8 +129,13 @@ class Printer:
             yield f"false on {answer.on.count(False)} of {count}: {self._counts(answer, False)}"
 
     def _counts(self, answer: Answer, value: Optional[bool]) -> str:
-        """Returns the systems on whose targets an answer has a value. One with other values too has
-        the numbers."""
+        """Returns the targets on which an answer has a value, if there are few targets, or else
+        their systems. A system with other values too has the numbers."""
+        if answer.on.count(value) == len(answer.on):
+            return "each target"
+        if len(answer.on) <= MOST_TARGETS:
+            return ", ".join(platform.triple for platform, one
+                             in zip(self._report.platforms, answer.on) if one is value)
         found = counted(answer, self._systems, value)
         words = [system if some == count else f"{system} ({some} of {count})"
                  for system, (some, count) in itertools.islice(found.items(), MOST_SYSTEMS)]
@@ -142,25 +149,38 @@ class Printer:
             if answer is not None and is_chosen and not answer.is_never:
                 yield what, answer
 
-    def _group_lines(
-        self, file: File, what: str, row: GroupRow, answer: Answer, source: Lines
-    ) -> Iterator[str]:
+    def _group_lines(self, file: File, row: GroupRow, source: Lines) -> Iterator[str]:
         """Yields the lines on targets where none or two of a group are taken."""
         group = row.group
-        told = f"{what} of {name_of(group)}"
-        if self._has_colours and what == TWO and group.items:
-            told = coloured(told, Colour.RED)
-        yield f"{shown(file.path)}:{group.place.line}:{group.place.column}: {told}"
-        yield from marked(group.place, source)
-        for note in self._values(answer):
-            if not note.startswith("false"):
-                yield from wrapped(shown(f"    {note}"), self._width)
-        if group.items:
-            places = ", ".join(str(item.place.line) for item in group.items[:MOST_GUARDS])
-            yield f"    {len(group.items)} items, in the lines {places}"
-        elif what == TWO:
-            yield "    the conditions of two branches are true there, and the first one is taken"
-        yield ""
+        for what, answer in self._told(row):
+            told = f"{what} of {name_of(group)}"
+            if self._has_colours and what == TWO and group.items:
+                told = coloured(told, Colour.RED)
+            yield f"{shown(file.path)}:{group.place.line}:{group.place.column}: {told}"
+            yield from marked(group.place, source)
+            for note in self._values(answer):
+                if not note.startswith("false"):
+                    yield from wrapped(shown(f"    {note}"), self._width)
+            yield f"    {members_of(row, what)}"
+            yield ""
+
+
+def members_of(row: GroupRow, what: str) -> str:
+    """Returns a sentence on the items or branches of a group."""
+    group = row.group
+    if group.items:
+        places = ", ".join(str(item.place.line) for item in group.items[:MOST_GUARDS])
+        is_more = " and others" if len(group.items) > MOST_GUARDS else ""
+        return f"{len(group.items)} items, in the lines {places}{is_more}"
+    if what == TWO:
+        return "the conditions of two branches are true there, and the first one is taken"
+    return f"{len(group.branches)} branches, and none for what is left"
+
+
+def place_of(row: Row) -> Place:
+    """Returns the place of what is wrong with a condition, or of the condition."""
+    problem = row.condition.problem
+    return row.condition.place if problem is None else problem.place
 
 
 def guards_of(file: File, guard: Guard) -> str:
@@ -209,8 +229,10 @@ def counts_of(report: Report) -> str:
     counts = counts_in(report.files)
     told = [f"{counts[one]} {one.replace('-', ' ')}" for one in CHOICES if counts[one] > 0]
     passed = f"; {len(report.passed)} passed over" if report.passed else ""
-    return (f"{len(report.platforms)} targets; {report.count} files; {counts[COLUMNS[0]]} conditions"
-            f": {', '.join(told) or 'none'}{passed}")
+    numbers = ((len(report.platforms), "target"), (report.count, "file"),
+               (counts[COLUMNS[0]], "condition"))
+    front = "; ".join(f"{one} {name}" if one == 1 else f"{one} {name}s" for one, name in numbers)
+    return f"{front}: {', '.join(told) or 'none'}{passed}"
 
 
 def summary_lines(report: Report) -> Iterator[str]:

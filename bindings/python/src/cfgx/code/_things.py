@@ -34,6 +34,8 @@ HEADED_BLOCKS = ("if", "match", "while", "for")
 BLOCKS = ("unsafe", "loop", "async", "const", "try", "gen")
 # What continues an expression that ends with a block.
 CONTINUING = (".", "?")
+# How many tokens may stand between `<` and `>`, which need not be delimiters.
+MOST_LISTED = 1000
 # What stands behind a group in a pattern, in front of the body.
 BEHIND_PATTERN = ("=", "|", "in")
 
@@ -94,6 +96,13 @@ class Cursor:
         """Whether this token is an identifier or a keyword."""
         token = self.token(number)
         return token is not None and token.kind in (Kind.WORD, Kind.RAW_WORD)
+
+    def ends(self, *words: str) -> bool:
+        """Whether one of some words is next, or the level ends, or another thing begins: that is so
+        at an attribute, unless it stands on an expression."""
+        word = self.word()
+        is_attribute = word == "#" and self.word(1) in ("[", "!") and self.before != "="
+        return word in words or word == "" or is_attribute
 
     def step(self) -> None:
         """Passes the next token."""
@@ -200,22 +209,25 @@ def name_of(cursor: Cursor, kind: str) -> str:
 
 def pass_mark(cursor: Cursor) -> None:
     """Goes on to behind the next `;`."""
-    while cursor.word() not in (";", ""):
+    while not cursor.ends(";"):
         cursor.step()
-    cursor.step()
+    if cursor.word() == ";":
+        cursor.step()
 
 
 def pass_body(cursor: Cursor) -> Optional[int]:
     """Goes on to behind the body of an item or a `;` in its place, and returns where the body
     begins. Braces between `<` and `>` are no body."""
-    angles = 0
-    while cursor.word() not in (";", ""):
+    angles, listed = 0, 0
+    while listed < MOST_LISTED and (angles > 0 and cursor.word() or not cursor.ends(";")):
         token, word = cursor.token(), cursor.word()
         cursor.step()
         if word == "{" and angles == 0:
             return None if token is None else token.start
         angles = max(0, angles + (word == "<") - (word == ">"))
-    cursor.step()
+        listed = listed + 1 if angles > 0 else 0
+    if cursor.word() == ";":
+        cursor.step()
     return None
 
 
@@ -230,7 +242,7 @@ def pass_statement(cursor: Cursor) -> None:
     if word in HEADED_BLOCKS:
         pass_head(cursor)
     elif word in BLOCKS:
-        while cursor.word() not in ("{", ";", ",", ""):
+        while not cursor.ends("{", ";", ","):
             cursor.step()
     if cursor.word() != "{":
         pass_rest(cursor)
@@ -247,7 +259,7 @@ def pass_statement(cursor: Cursor) -> None:
 
 def pass_head(cursor: Cursor) -> None:
     """Goes on to the body behind a condition. A pattern may have braces in front of it."""
-    while cursor.word() not in (";", ""):
+    while not cursor.ends(";"):
         is_body = cursor.word() == "{" and cursor.before != "!"
         if is_body and cursor.word(1) not in BEHIND_PATTERN:
             return
@@ -257,9 +269,9 @@ def pass_head(cursor: Cursor) -> None:
 def pass_rest(cursor: Cursor) -> None:
     """Goes on to the end of an expression, a field, a variant, an arm or a parameter. A `<` behind
     a `:` begins a list with commas, if a `>` ends it."""
-    angles, is_path, is_typed = 0, True, False
+    angles, listed, is_path, is_typed = 0, 0, True, False
     comma: Optional[int] = None
-    while cursor.word() not in (";", ""):
+    while not cursor.ends(";") and listed < MOST_LISTED:
         word, before = cursor.word(), cursor.before
         if word in (",", ">") and angles == 0:
             return
@@ -274,7 +286,9 @@ def pass_rest(cursor: Cursor) -> None:
         is_path = is_path and (word in ("::", "!") or word.isidentifier())
         is_typed = is_typed or word == ":"
         angles += (word == "<" and (is_typed or before == "::")) - (word == ">")
-    cursor.step()
+        listed = listed + 1 if angles > 0 else 0
+    if cursor.word() == ";":
+        cursor.step()
     if angles > 0 and comma is not None:
         cursor.place = comma
 
@@ -295,13 +309,13 @@ def pass_expression(cursor: Cursor) -> None:
     """Goes on to the `,` behind an expression. One between the `|` of a closure, or behind `::<`,
     is a part of it."""
     angles = 0
-    while cursor.word():
+    while not cursor.ends():
         word, before = cursor.word(), cursor.before
         if word == "," and angles == 0:
             return
         cursor.step()
         if word == "|" and before in ("=>", ",", "=", "move", "return", "static", "async"):
-            while cursor.word() not in ("|", ""):
+            while not cursor.ends("|"):
                 cursor.step()
             cursor.step()
         angles += word == "<" and (before == "::" or angles > 0)

@@ -9,7 +9,7 @@ import dataclasses
 import enum
 import itertools
 import re
-from typing import Dict, Iterable, Iterator, List, Optional, Sequence, Tuple
+from typing import Dict, Iterable, Iterator, List, NamedTuple, Optional, Sequence, Tuple
 
 from ..manifest._conditions import Unknown, Values, values_of
 from ..manifest._platforms import Platform
@@ -23,7 +23,9 @@ FIXED = re.compile(
 )
 # How many characters one question may have, and all of a report. A condition inside of ten thousand
 # others, or the last of as many branches, would have too many.
-MOST_CHARACTERS, MOST_ALL = 1 << 16, 1 << 26
+MOST_CHARACTERS, MOST_ALL = 1 << 16, 1 << 25
+# How many guards around a condition are looked at one by one.
+MOST_AROUND = 256
 # Of how many items or branches it is asked whether two are taken.
 MOST_COMPARED = 32
 
@@ -108,16 +110,17 @@ def guard_texts(guard: Optional[Guard], outside: Optional[Guard] = None) -> Opti
             break
         if one.text is not None:
             texts.append(one.text)
-            size += len(one.text)
+        size += len(one.text or "") + 1
         if size > MOST_CHARACTERS:
             return None
     return list(dict.fromkeys(reversed(texts)))
 
 
 def is_whole(guard: Optional[Guard], outside: Optional[Guard] = None) -> bool:
-    """Whether a guard and those around it up to another one were read."""
+    """Whether a guard and those around it up to another one were read, as far as they are looked
+    at."""
     inside = itertools.takewhile(lambda one: one is not outside, [] if guard is None else guard.all)
-    return all(one.text is not None for one in inside)
+    return all(one.text is not None for one in itertools.islice(inside, MOST_AROUND))
 
 
 def all_of(texts: Sequence[str]) -> str:
@@ -170,18 +173,23 @@ class Judged:
     """Judges the conditions of a file, in three steps: `ask`, and when the answers are there
     `ask_always`, and when those are there `rows` and `group_rows`."""
 
-    def __init__(self, code: Code, questions: Questions) -> None:
+    def __init__(self, code: Code, context: Sequence[str], questions: Questions) -> None:
+        """`context` has what has to hold for the file to be compiled."""
         self._code = code
+        self._context = list(context)
         self._questions = questions
+        self._file: Optional[str] = None
         self._asked: Dict[int, Optional[str]] = {}
         self._always: Dict[int, Optional[str]] = {}
         self._groups: List[Tuple[Optional[str], Optional[str]]] = []
 
     def ask(self) -> None:
         """Asks where each condition holds, and where none or two of a group are taken."""
+        if self._context:
+            self._file = self._questions.ask(self._context)
         for one in self._code.conditions:
             if one.text is not None:
-                self._asked[one.number] = self._questions.ask(with_guards(one, one.text))
+                self._asked[one.number] = self._questions.ask(self._guarded(one, one.text))
         self._groups = [self._ask_group(group) for group in self._code.groups]
 
     def ask_always(self) -> None:
@@ -190,9 +198,18 @@ class Judged:
             answer = self._questions.answer(self._asked.get(one.number))
             if answer is None or one.text is None or answer.is_never:
                 continue
-            if one.guard is not None or None in answer.on:
-                negated = with_guards(one, f"not({one.text})")
+            if one.guard is not None or self._context:
+                negated = self._guarded(one, f"not({one.text})")
                 self._always[one.number] = self._questions.ask(negated)
+
+    def _guarded(self, one: Condition, text: str) -> Optional[List[str]]:
+        """Returns what has to hold for a condition to matter, and a text in its place."""
+        texts = guard_texts(one.guard)
+        return None if texts is None else list(dict.fromkeys([*self._context, *texts, text]))
+
+    def file(self) -> Optional[Answer]:
+        """Returns where the file is compiled, if that is told of it."""
+        return self._questions.answer(self._file)
 
     def rows(self) -> Iterator[Row]:
         """Yields what each condition is."""
@@ -207,10 +224,11 @@ class Judged:
 
     def _within(self, one: Condition, never: Dict[int, int]) -> Optional[int]:
         """Returns the number of the outermost condition that never holds around another."""
-        guard = one.guard
-        while guard is not None and (guard.is_negated or guard.number not in never):
-            guard = guard.outer
-        return None if guard is None else never[guard.number]
+        around = itertools.islice([] if one.guard is None else one.guard.all, MOST_AROUND)
+        # A `cfg` inside of `cfg_attr` that never holds may still let its item be there.
+        found = (guard.number for guard in around
+                 if guard.text == self._code.conditions[guard.number].text)
+        return next((never[number] for number in found if number in never), None)
 
     def _verdict(self, one: Condition, answer: Optional[Answer]) -> Verdict:
         """Returns what a condition is."""
@@ -240,6 +258,7 @@ class Judged:
         around, parts = guard_texts(group.guard), list(self._parts(group))
         known = [part for part in parts if part is not None]
         none = two = None
+        around = None if around is None else [*self._context, *around]
         if around is None or sum(map(len, known)) > MOST_CHARACTERS:
             return None, None
         if not group.has_last and len(known) == len(parts):
@@ -261,19 +280,22 @@ class Judged:
             yield all_of(texts or ["true"]) if texts is not None and is_read else None
 
 
-def with_guards(one: Condition, text: str) -> Optional[List[str]]:
-    """Returns the guards of a condition, and a text in its place."""
-    texts = guard_texts(one.guard)
-    return None if texts is None else [*texts, text]
+class Judgement(NamedTuple):
+    """What the conditions of a file are."""
+
+    file: Optional[Answer]
+    """Where the file is compiled, if that is told of it."""
+    rows: List[Row]
+    groups: List[GroupRow]
 
 
 def judged(
-    codes: Iterable[Code], platforms: Sequence[Platform]
-) -> Iterator[Tuple[List[Row], List[GroupRow]]]:
+    codes: Iterable[Code], contexts: Iterable[Sequence[str]], platforms: Sequence[Platform]
+) -> Iterator[Judgement]:
     """Yields what the conditions of each file are on platforms, and where none or two of what
-    belongs together are taken."""
+    belongs together are taken. A context has what has to hold for a file to be compiled."""
     questions = Questions(platforms)
-    files = [Judged(code, questions) for code in codes]
+    files = [Judged(code, context, questions) for code, context in zip(codes, contexts)]
     for one in files:
         one.ask()
     questions.find()
@@ -281,4 +303,4 @@ def judged(
         one.ask_always()
     questions.find()
     for one in files:
-        yield list(one.rows()), list(one.group_rows())
+        yield Judgement(one.file(), list(one.rows()), list(one.group_rows()))

@@ -112,19 +112,32 @@ class Workspace:
         own = tuple(one for one in packages if os.path.realpath(one.manifest_path) == same)
         return cls(tuple(packages), own or tuple(packages))
 
-    def chosen(self, names: Sequence[str], is_whole: bool) -> Tuple[Package, ...]:
+    def chosen(
+        self, names: Sequence[str], is_whole: bool, excluded: Sequence[str] = ()
+    ) -> Tuple[Package, ...]:
         """Returns the packages with these names or, if there are no names, all packages of the
-        workspace or those of the manifest. Raises `RequestError`."""
-        if not names:
-            return self.packages if is_whole else self.own
+        workspace but those that are excluded, or those of the manifest. Raises `RequestError`."""
+        if names and is_whole:
+            raise RequestError("-p names packages, and --workspace takes all of them: give one")
+        if excluded and not is_whole:
+            raise RequestError("--exclude needs --workspace, of which it leaves out packages")
+        self._expect(*names, *excluded)
+        if names:
+            wanted = frozenset(names)
+            return tuple(one for one in self.packages if one.name in wanted)
+        unwanted = frozenset(excluded)
+        if is_whole:
+            return tuple(one for one in self.packages if one.name not in unwanted)
+        return self.own
+
+    def _expect(self, *names: str) -> None:
+        """Raises `RequestError` if the workspace lacks a package."""
         known = dict.fromkeys(one.name for one in self.packages)
         missing = [name for name in names if name not in known]
         if missing:
             close = difflib.get_close_matches(missing[0], known, 1)
             hint = f"; is it {close[0]}?" if close else ""
             raise RequestError(f"the workspace has no package {missing[0]}{hint}")
-        wanted = frozenset(names)
-        return tuple(one for one in self.packages if one.name in wanted)
 
 
 def manifest_above(folder: str) -> str:

@@ -1,5 +1,5 @@
-"""What `--fail-on` and SARIF tell of a report: conditions that are never true, and values that are
-unknown."""
+"""What is found in a report, and told by `--fail-on` and SARIF: conditions that are never true, and
+values that are unknown."""
 from typing import Callable, Dict, Iterable, Iterator, Mapping, NamedTuple, Optional, Sequence
 
 from .. import __version__, _sarif
@@ -7,14 +7,16 @@ from .._known import Entry, Form, Known
 from .._sarif import Level, Rule
 from .._terminal import shown
 from ._conditions import Unknown, groups_in
+from ._names import FINDINGS, NEVER, UNKNOWN
 from ._once import Once
 from ._places import Places
-from ._report import Report, Row, Value
+from ._report import Report, Row, Value, has_unknown
 from ._table import Names, full_name_of
 
-UNKNOWN, NEVER = FINDINGS = ("unknown", "never")
 # What an entry of a file of known rows may have, by the names of JSON.
 FORM = Form(FINDINGS, ("package", "name", "kind", "condition"), ("name", "condition"))
+# How a finding is told on stderr.
+TOLD = {UNKNOWN: "unknown", NEVER: "never true"}
 RULES = (
     Rule(UNKNOWN, "Whether Cargo takes a dependency depends on flags that RUSTFLAGS may set.",
          Level.NOTE),
@@ -35,13 +37,8 @@ class Finding(NamedTuple):
     """The entry for it in the file of known rows, if it has one."""
 
     def __str__(self) -> str:
-        what = "never true" if self.name == NEVER else self.name
-        return shown(f"{what}: {full_name_of(self.row)} {self.row.dependency.condition}")
-
-
-def has_unknown(values: Sequence[Value]) -> bool:
-    """Whether a value is unknown."""
-    return Value.UNKNOWN in values
+        row = f"{full_name_of(self.row)} {self.row.dependency.condition}"
+        return shown(f"{TOLD[self.name]}: {row}")
 
 
 def findings_in(rows: Iterable[Row], known: Known) -> Iterator[Finding]:
@@ -60,11 +57,11 @@ def members_of(row: Row) -> Dict[str, str]:
             "condition": one.condition or ""}
 
 
-def sarif_of(
-    report: Report, findings: Iterable[Finding], fail_on: Sequence[str]
-) -> Iterator[str]:
-    """Yields the lines of one object of SARIF with findings of a report. Those for which the
-    command fails are errors."""
+def sarif_of(report: Report, known: Known, fail_on: Sequence[str]) -> Iterator[str]:
+    """Yields the lines of one object of SARIF with what is found in a report: all, or what the
+    command fails for. This is an error unless it is known."""
+    findings = (one for one in findings_in(report.rows, known)
+                if not fail_on or one.name in fail_on)
     manifests = {row.dependency.package_manifest for row in report.rows} or {report.manifest_path}
     base = _sarif.base_of(sorted(manifests))
     places = Places(base)

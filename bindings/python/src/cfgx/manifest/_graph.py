@@ -103,7 +103,7 @@ def no_graph(manifest: str, error: Exception) -> CargoError:
     return CargoError(f"cargo lists no graph of {manifest}: {error}")
 
 
-def read(found: Mapping[str, Any], every: Sequence[Mapping[str, Any]]) -> Graph:
+def read(found: Dict[str, Any], every: Sequence[Dict[str, Any]]) -> Graph:
     """Returns the graph that Cargo lists, with every package of the lock file."""
     listed = {one["id"]: one for one in every}
     listed.update((one["id"], one) for one in found["packages"])

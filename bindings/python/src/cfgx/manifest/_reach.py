@@ -20,8 +20,8 @@ from ._search import Budget, SpentError
 # How many steps of a way are kept: the last ones. Without a bound, the ways to the packages of a
 # chain would take the square of its length.
 MOST_STEPS = 50
-# What a step takes of the budget of a report, while ways are searched and in a way that is kept.
-STEP = 100
+# What a step takes of the budget of a report: while ways are searched, and in a way that is kept.
+STEP, KEPT_STEP = 100, 1000
 
 
 class Place(NamedTuple):
@@ -203,7 +203,7 @@ class Ways:
         steps: List[Step] = []
         arrival = self._arrival(place, platform)
         while arrival.before is not None and arrival.step is not None and len(steps) < MOST_STEPS:
-            self._budget.spend(STEP)
+            self._budget.spend(KEPT_STEP)
             steps.append(arrival.step)
             place = arrival.before
             arrival = self._arrival(place, platform)

@@ -8,7 +8,7 @@ from ._cargo import Package
 from ._conditions import values_of
 from ._graph import Features, Graph, graph_of
 from ._once import Once
-from ._platforms import Flags, Platform
+from ._platforms import Flags, Platform, Progress
 from ._reach import Build, Place, Step, Ways, reached
 from ._report import Value, expect_kinds, expect_lists, notes_on
 from ._search import BUDGET, Budget
@@ -98,40 +98,42 @@ class Resolved:
 
 def resolved(
     manifest: Optional[str] = None, targets: Sequence[str] = (), *,
-    packages: Sequence[str] = (), is_workspace: bool = False,
+    packages: Sequence[str] = (), workspace: bool = False, exclude: Sequence[str] = (),
     kinds: Sequence[str] = _cargo.KINDS, features: Features = Features(),
-    settings: Sequence[str] = (), facts: Optional[Mapping[str, Iterable[str]]] = None,
-    flags: Sequence[str] = (), has_other_flags: bool = True,
-    rustflags: Optional[Sequence[str]] = None, asks_rustc: bool = False,
+    config: Sequence[str] = (), facts: Optional[Mapping[str, Iterable[str]]] = None,
+    cfg: Sequence[str] = (), no_other_cfg: bool = False,
+    rustflags: Optional[Sequence[str]] = None, rustc: bool = False,
     host: Optional[str] = None, environment: Optional[Mapping[str, str]] = None,
-    cargo_timeout: float = _cargo.TIMEOUT,
+    cargo_timeout: float = _cargo.TIMEOUT, progress: Optional[Progress] = None,
 ) -> Resolved:
     """Returns which packages of a lock file builds for platforms have.
 
     The arguments are those of `report`, and two more:
 
     - `features` are those that are on of the members of the workspace.
-    - `settings` are settings of Cargo, as its `--config` takes them: `KEY=VALUE`, or files.
+    - `config` are settings of Cargo, as its `--config` takes them: `KEY=VALUE`, or files.
 
-    `packages` and `is_workspace` say with which packages a build begins: these are built with their
+    `packages` and `workspace` say with which packages a build begins: these are built with their
     tests. `kinds` are those of the dependencies that it follows. Cargo neither writes a lock file
     nor fetches a package.
 
     Raises a `ManifestError`, or `TypeError` if a text stands for a list.
     """
-    expect_lists(targets, packages, kinds, flags, rustflags or (), settings, features.names)
+    expect_lists(
+        targets, packages, exclude, kinds, cfg, rustflags or (), config, features.names
+    )
     expect_kinds(kinds)
     _cargo.expect_time(cargo_timeout)
     variables = os.environ if environment is None else environment
-    known = Flags(tuple(flags), tuple(rustflags or ()), has_other_flags)
-    source = _platforms.source_of(known, variables, asks_rustc, cargo_timeout)
+    flags = Flags(tuple(cfg), tuple(rustflags or ()), not no_other_cfg)
+    source = _platforms.source_of(flags, variables, rustc, cargo_timeout, progress)
     path = _cargo.manifest_at(manifest)
-    graph = graph_of(path, features, settings, cargo_timeout)
+    graph = graph_of(path, features, config, cargo_timeout)
     chosen = frozenset(
-        one.identity for one in graph.workspace(path).chosen(packages, is_workspace)
+        one.identity for one in graph.workspace(path).chosen(packages, workspace, exclude)
     )
     roots = frozenset(n for n, one in enumerate(graph.packages) if one.identity in chosen)
-    found = _platforms.platforms_of(source, targets, facts or {}, known, host)
+    found = _platforms.platforms_of(source, targets, facts or {}, flags, host)
     reach = Found(Build(graph, roots, tuple(kinds)), found)
     rows = tuple(map(reach.row, range(len(graph.packages))))
     notes = notes_on(path, rustflags, variables, has_target=len(found) > 1)
@@ -280,7 +282,8 @@ class Found:
         is_true = self._conditions.holds(step) >> platform & 1
         return Leg(
             self._build.graph.packages[step.place.package], step.edge.kind, step.edge.condition,
-            Value.YES if is_true else Value.UNKNOWN, self._conditions.flags(step, platform),
+            Value.YES if is_true else Value.UNKNOWN,
+            () if is_true else self._conditions.flags(step, platform),
             step.place.is_host or not self._has_target,
         )
 

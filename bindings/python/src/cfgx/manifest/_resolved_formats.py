@@ -3,9 +3,9 @@ import collections
 import json
 from typing import Dict, FrozenSet, Iterator, List, Mapping, Optional, Sequence, Tuple
 
+from .._terminal import shown, wrapped
 from . import _table
 from ._cargo import Package
-from ._errors import shown
 from ._formats import TRUTH, VERSION, YES_OR_NO, list_of, members, platform_list, summary_members
 from ._formats import tabbed
 from ._once import Once
@@ -46,47 +46,68 @@ class Names:
         return " ".join([self._name(leg.package), *marks])
 
 
-def table_of(report: Resolved, width: Optional[int], is_summary: bool) -> Iterator[str]:
+def table_of(
+    report: Resolved, width: Optional[int], is_summary: bool, left_out: int = 0,
+    is_coloured: bool = False,
+) -> Iterator[str]:
     """Yields the lines of a table with a column for each platform, or with the number of platforms
-    that have each value. Without a width, no line is cut."""
+    that have each value. Without a width, no line is cut. `left_out` is how many packages the
+    report leaves out."""
     names = Names(report)
     fronts = [
         ["package", *(shown(row.package.name) for row in report.rows)],
         ["version", *(shown(row.package.version) for row in report.rows)],
     ]
-    heads, cells = summary_cells(report) if is_summary else value_cells(report)
+    cells = Cells(report, is_summary, has_group=True)
     ways = [shown(names.way(row.routes[0])) if row.routes else "" for row in report.rows]
-    yield from _table.lines_of(Grid(fronts, heads, cells, ["shortest way", *ways]), width)
-    yield from explained(report)
-    yield counted(report)
+    values = [cells.of(row) for row in report.rows]
+    grid = Grid(fronts, cells.heads(), values, ["shortest way", *ways])
+    yield from _table.lines_of(grid, width, is_coloured)
+    for line in explained(report):
+        yield from wrapped(line, _table.width_below(width))
+    yield counted(report, left_out)
 
 
-def value_cells(report: Resolved) -> Tuple[List[str], List[Sequence[str]]]:
-    """Returns the heads and the cells of the columns of the platforms."""
-    heads = [shown(platform.name) for platform in report.platforms]
-    return heads, [cells_of(report, row) for row in report.rows]
+class Cells:
+    """The columns of the platforms, or of a summary. Rows with equal values share their cells."""
 
+    def __init__(self, report: Resolved, is_summary: bool, has_group: bool = False) -> None:
+        """`has_group` is whether a summary names the smaller group of platforms."""
+        self._report = report
+        self._is_summary = is_summary
+        self._has_group = has_group
+        # By the values, which are one object where they are equal, and are kept by the report.
+        self._made: Dict[Tuple[int, int], List[str]] = {}
 
-def cells_of(report: Resolved, row: Used) -> List[str]:
-    """Returns the values of a row as words. Where a package is built for the host alone, and there
-    is a target, the word says so."""
-    if report.platforms[0].is_host:
-        return [value.value for value in row.values]
-    return [
-        value.value + (FOR_HOST if value is not Value.NO and target is Value.NO else "")
-        for value, target in zip(row.values, row.for_target)
-    ]
+    def heads(self) -> List[str]:
+        """Returns the heads of the columns."""
+        if not self._is_summary:
+            return [shown(platform.name) for platform in self._report.platforms]
+        group = ["smaller group"] if self._has_group else []
+        return [*(value.value for value in COUNTED), *group]
 
+    def of(self, row: Used) -> List[str]:
+        """Returns the cells of a row."""
+        key = id(row.values), id(row.for_target)
+        if key not in self._made:
+            self._made[key] = self._summarized(row) if self._is_summary else self._words(row)
+        return self._made[key]
 
-def summary_cells(report: Resolved) -> Tuple[List[str], List[Sequence[str]]]:
-    """Returns the heads and the cells of the columns of a summary."""
-    summaries = [summary_of(row.values, report.platforms) for row in report.rows]
-    cells = [
-        [*(str(summary.counts[value]) for value in COUNTED),
-         _table.smaller_group(summary, row.is_never)]
-        for row, summary in zip(report.rows, summaries)
-    ]
-    return [*(value.value for value in COUNTED), "smaller group"], cells
+    def _words(self, row: Used) -> List[str]:
+        """Returns the values of a row as words. Where a package is built for the host alone, and
+        there is a target, the word says so."""
+        if self._report.platforms[0].is_host:
+            return [value.value for value in row.values]
+        return [
+            value.value + (FOR_HOST if value is not Value.NO and target is Value.NO else "")
+            for value, target in zip(row.values, row.for_target)
+        ]
+
+    def _summarized(self, row: Used) -> List[str]:
+        """Returns the number of platforms with each value."""
+        summary = summary_of(row.values, self._report.platforms)
+        group = [_table.smaller_group(summary, row.is_never)] if self._has_group else []
+        return [*(str(summary.counts[value]) for value in COUNTED), *group]
 
 
 def explained(report: Resolved) -> Iterator[str]:
@@ -110,13 +131,12 @@ def flags_of(row: Used) -> Tuple[str, ...]:
     return tuple(sorted({flag for route in unknown for leg in route.legs for flag in leg.flags}))
 
 
-def counted(report: Resolved) -> str:
+def counted(report: Resolved, left_out: int = 0) -> str:
     """Returns a line with the host and the number of packages by their values."""
-    groups = collections.Counter(_table.group_of(row.values) for row in report.rows)
+    groups = collections.Counter(map(Once(_table.group_of), (row.values for row in report.rows)))
     order = ("yes", "no", "yes or no", "unknown")
     counts = [f"{groups[name]} {name}" for name in order if groups[name] > 0]
-    count = len(report.rows)
-    packages = "1 package" if count == 1 else f"{count} packages"
+    packages = _table.number_of(len(report.rows), left_out, "package")
     return f"host {shown(report.host)}; {packages}: {', '.join(counts) or 'none'}"
 
 
@@ -186,18 +206,16 @@ def step_members(leg: Leg) -> Mapping[str, object]:
 
 def tsv_of(report: Resolved, is_summary: bool) -> Iterator[str]:
     """Yields lines whose cells stand between tabs, the head first."""
-    heads, cells = value_cells(report)
-    if is_summary:
-        heads = [value.value for value in COUNTED]
-        cells = [
-            [str(summary.counts[value]) for value in COUNTED]
-            for row in report.rows for summary in [summary_of(row.values, report.platforms)]
-        ]
-    names = Names(report)
-    yield tabbed("package", "version", "source", "location", "member", *heads, "way")
-    for row, values in zip(report.rows, cells):
+    cells, names, joined = Cells(report, is_summary), Names(report), Once(tabs)
+    head = "package", "version", "source", "location", "member", *cells.heads(), "way"
+    yield tabbed(*head)
+    for row in report.rows:
         one = row.package
+        front = tabbed(one.name, one.version, *one.source, YES_OR_NO[row.is_member])
         way = names.way(row.routes[0]) if row.routes else ""
-        yield tabbed(
-            one.name, one.version, *one.source, YES_OR_NO[row.is_member], *values, way
-        )
+        yield "\t".join([front, joined(cells.of(row)), shown(way)])
+
+
+def tabs(cells: Sequence[str]) -> str:
+    """Returns cells with tabs between them."""
+    return tabbed(*cells)

@@ -14,35 +14,24 @@ returns-in_err-facts-2-clause-err c =
     let about = rw (c.as_slice.ensures.value, facts.0) at c.in_err-facts-2.ensures.err in
     rw (p.1, p.2) (Refuses-read _ _ _ facts.1 about)
 
--- the text is not UTF-8
-pub returns-in_err-read_text-clause-err : goal.returns-in_err-read_text-clause-err
-returns-in_err-read_text-clause-err c =
-    let p = err_from_is_err_and
-    c.from_residual-in_err-read_text.result c.from_residual-in_err-read_text.ensures.1 in
-    let facts = c.in_ok-facts.ensures.ok in
-    let read = rw (c.as_slice.ensures.value, facts.0) at c.in_ok-facts-2.ensures.ok in
-    rw (p.1, p.2) (Refuses-text _ c.args.text.now _ (all_facts _ facts.1 read.0)
-    c.in_err-read_text.ensures.err)
-
--- the text is faulty
+-- the text cannot be read
 pub returns-in_err-condition-clause-err : goal.returns-in_err-condition-clause-err
 returns-in_err-condition-clause-err c =
     let p = err_from_is_err_and
     c.from_residual-in_err-condition.result c.from_residual-in_err-condition.ensures.1 in
     let facts = c.in_ok-facts.ensures.ok in
     let read = rw (c.as_slice.ensures.value, facts.0) at c.in_ok-facts-2.ensures.ok in
-    let refuses = rw c.in_ok-read_text.ensures.ok.0 at c.in_err-condition.ensures.err in
-    rw (p.1, p.2) (Refuses-text _ c.args.text.now _ (all_facts _ facts.1 read.0) refuses)
+    rw (p.1, p.2) (Refuses-text _ c.args.text.now _ (all_facts _ facts.1 read.0)
+    c.in_err-condition.ensures.err)
 
 pub returns-clause-ok : goal.returns-clause-ok
 returns-clause-ok c =
     let facts = c.in_ok-facts.ensures.ok in
     let read = rw (c.as_slice.ensures.value, facts.0) at c.in_ok-facts-2.ensures.ok in
-    let text = c.in_ok-read_text.ensures.ok in
-    let condition = rw text.0 at c.in_ok-condition.ensures.ok in (
+    let (condition, offset, is_condition) = c.in_ok-condition.ensures.ok in (
       all_facts _ facts.1 read.0,
-      (text.1, condition.1),
+      is_condition,
       AnswersOfFacts-read c.args.text.now _ (parts c.args.fact_ends.now c.args.facts.now) _
-          c.args.otherwise c.in_ok-answers_to.field-0.items condition.0 read.1
+          c.args.otherwise c.in_ok-answers_to.field-0.items condition read.1
           c.in_ok-answers_to.ensures,
     )

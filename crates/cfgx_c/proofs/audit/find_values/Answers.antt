@@ -43,7 +43,8 @@ returns-clause-err c =
     let read = rw (c.as_slice.ensures.value, facts.0) at c.in_ok-targets.ensures.ok in
     let slice = c.as_slice-conditions.result.now in
     let is = ap views c.as_slice-conditions.ensures.value ∙ conditions.0 in
-    rw c.text_refusal.ensures (Refuses-texts (parts c.args.fact_ends.now c.args.facts.now)
+    rw (c.text_refusal.ensures, c.strip-offset.ensures.offset) (Refuses-texts
+    (parts c.args.fact_ends.now c.args.facts.now)
     (parts c.args.condition_ends.now c.args.conditions.now) _ (all_facts _ facts.1 read.0)
     conditions.1 (rw (← is) (text_refused slice c.in-Err.error.index _ c.in-Err.error.failure
     c.in-Err.ensures.err)))

@@ -5,7 +5,6 @@ use Rattle.std.proofs.Common.{drop, length, map}
 use Rattle.std.proofs.lemmas.List.{length-append}
 use Rattle.std.proofs.Common.{ℕ, List}
 use Rattle.std.specs.List.{AllByRecursion, AllZip}
-use Rattle.cfgx_syntax.specs.Stripping.{strip}
 use Rattle.cfgx_grammar.specs.Question.{Question}
 use Rattle.cfgx_parser.specs.Located.{HasCut}
 use Rattle.cfgx_parser.specs.declared.located.LocatedPredicate.{LocatedPredicate}
@@ -24,26 +23,27 @@ cuts_each text _ _ are = absurd are
 
 pub c_predicate-requires : goal.c_predicate-requires
 c_predicate-requires c =
-    let cuts = rw c.in-Some.ensures.steps at c.loop-predicate.invariant.cuts in (
-      strip c.args.text.now,
-      cuts.0,
-      omega (arith, ap length c.strip-offset.ensures.text, c.strip-offset.ensures.stands.1),
-    )
+    let so_far = c.loop-predicate.invariant in
+    let cuts = rw c.in-Some.ensures.steps at so_far.cuts in (so_far.text, cuts.0, so_far.fits)
 
 pub loop-predicate-init : goal.loop-predicate-init
-loop-predicate-init c = record {
-  front = [];
-  whole = refl;
-  count = refl;
-  shown = refl;
-  cuts = rw c.into_iter-predicate-iterator.ensures.into_iter_gives
-      (cuts_each (strip c.args.text.now) _ c.args.predicates c.requires.located.each);
-}
+loop-predicate-init c =
+    let (text, located, fits) = c.requires.located in
+    record {
+      front = [];
+      whole = refl;
+      count = refl;
+      shown = refl;
+      text = text;
+      fits = fits;
+      cuts = rw c.into_iter-predicate-iterator.ensures.into_iter_gives
+          (cuts_each text _ c.args.predicates located.each);
+    }
 
 pub loop-predicate-preserved : goal.loop-predicate-preserved
 loop-predicate-preserved c =
     let so_far = c.loop-predicate.invariant in
-    let offset = c.strip-offset.result.offset in
+    let offset = c.args.offset in
     let cuts = rw c.in-Some.ensures.steps at so_far.cuts in
     let whole = rw c.in-Some.ensures.steps at so_far.whole in
     let long = ap length whole in
@@ -62,6 +62,8 @@ loop-predicate-preserved c =
       shown = rw c.c_predicate.ensures (written_next (c_predicate offset) so_far.front
           c.in-Some.predicate c.args.buffer.now c.loop-predicate.buffer c.loop-predicate.written
           so_far.count inside so_far.shown);
+      text = so_far.text;
+      fits = so_far.fits;
       cuts = cuts.1;
     }
 
@@ -70,7 +72,7 @@ returns c =
     let so_far = c.loop-predicate.invariant in
     let whole = rw (c.in-None.ensures.steps.0, append-nil) at so_far.whole in
     let all = whole ∙ c.into_iter-predicate-iterator.ensures.into_iter_gives in
-    let offset = c.strip-offset.result.offset in
-    rw (← c.strip-offset.ensures.offset) (so_far.shown
+    let offset = c.args.offset in
+    so_far.shown
     ∙ ap (λ n. map (c_predicate offset) so_far.front ++ drop n c.args.buffer.now) so_far.count
-    ∙ ap (λ xs. map (c_predicate offset) xs ++ drop (length xs) c.args.buffer.now) all)
+    ∙ ap (λ xs. map (c_predicate offset) xs ++ drop (length xs) c.args.buffer.now) all

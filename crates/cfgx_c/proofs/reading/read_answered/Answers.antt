@@ -4,7 +4,7 @@ use Rattle.cfgx_c.proofs.reading.read_answered.Goals as goal
 
 pub returns-then-left-answers-clause-other_count : goal.returns-then-left-answers-clause-other_count
 returns-then-left-answers-clause-other_count c is =
-    let read = rw c.in_ok-read_text.ensures.ok.0 at c.in_ok-condition.ensures.ok in
+    let read = c.in_ok-condition.ensures.ok in
     let asks = c.predicates.ensures.asked in
     rw (← read.0) (
       asks.0,

@@ -5,5 +5,6 @@ use Rattle.cfgx_c.proofs.TokenLemmas.{Reads}
 use Rattle.cfgx_c.proofs.tokens.count_tokens.Given as goal
 
 abbrev pub invariant-loop-lexed : goal.invariant-loop-lexed
-invariant-loop-lexed l = (tokens : List CfgxToken) × Reads l.text tokens l.lexed-iterator
+invariant-loop-lexed l = (tokens : List CfgxToken)
+    × Reads l.stripped.text.now l.stripped.offset tokens l.lexed-iterator
     × (l.count ≡ length tokens) × (l.count ≤ l.lexed-iterator.place)

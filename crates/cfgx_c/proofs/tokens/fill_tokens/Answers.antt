@@ -14,8 +14,8 @@ returns-clause-ok c =
         counted,
         elim c.if-count-buffer.branch [
           | then-count-buffer w ↦
-              let same = same_tokens c.args.text.now tokens _ c.in_ok-count.error has
-              w.write_tokens.ensures in
+              let same = same_tokens c.args.stripped.text.now c.args.stripped.offset tokens _
+              c.in_ok-count.error has w.write_tokens.ensures in
               let is = w.buffer-is in grind (arith, common_steps)
           | else-count-buffer w ↦ let is = w.buffer-is in grind (arith, common_steps)
         ],

@@ -3,4 +3,5 @@ use Rattle.cfgx_c.proofs.TokenLemmas.{Writes}
 use Rattle.cfgx_c.proofs.tokens.write_tokens.Given as goal
 
 abbrev pub invariant-loop-i : goal.invariant-loop-i
-invariant-loop-i l = Writes l.text l.lexer l.i l.initial.buffer l.buffer
+invariant-loop-i l = Writes l.stripped.text.now l.stripped.offset l.lexer l.i l.initial.buffer
+    l.buffer

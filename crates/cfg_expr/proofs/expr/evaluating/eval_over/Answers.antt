@@ -1,17 +1,16 @@
 -- The answers that come stand at the places of the text's one tree.
-use Rattle.std.proofs.Common.{◌≡◌, ◌∙◌, ℕ, List, Some, ap, arith, length, refl}
+use Rattle.std.proofs.Common.{◌≡◌, ◌∙◌, List, Some, ap, arith, length, refl}
 use Rattle.std.proofs.lemmas.List.{length-replicate}
 use Rattle.std.specs.Iterator.{AlwaysYields}
-use Rattle.cfgx_grammar.{specs.Answer.HasOneTree, proofs.Answering.only_tree}
-use Rattle.cfgx_grammar.specs.{Tree.asked, Tree.Tree, Question.Question, Grammar.HasTree}
+use Rattle.cfgx_grammar.specs.{Tree.asked}
 use Rattle.cfg_expr.specs.Fold.{tree_fold}
 use Rattle.cfg_expr.specs.declared.expr.evaluating.Slot.{Slot}
 use Rattle.cfg_expr.specs.declared.expr.evaluating.Slot.TheVariants as slot
 use Rattle.cfg_expr.proofs.Rooms.{room}
-use Rattle.cfg_expr.proofs.evaluated.Placed.{text-inside, text-value}
-use Rattle.cfg_expr.proofs.expr.condition.Condition.eval_over.Given.{Over}
-use Rattle.cfg_expr.proofs.expr.condition.Condition.eval_over.Goals.{After-eval_nodes}
-use Rattle.cfg_expr.proofs.expr.condition.Condition.eval_over.Goals as goal
+use Rattle.cfg_expr.proofs.evaluated.Placed.{answers-many, text-inside, text-value}
+use Rattle.cfg_expr.proofs.expr.evaluating.eval_over.Given.{Over}
+use Rattle.cfg_expr.proofs.expr.evaluating.eval_over.Goals.{After-eval_nodes}
+use Rattle.cfg_expr.proofs.expr.evaluating.eval_over.Goals as goal
 
 pub put_each-requires-clause-inside : goal.put_each-requires-clause-inside
 put_each-requires-clause-inside g c =
@@ -36,16 +35,11 @@ value g c given runs many = c.eval_nodes.ensures
     (c.as_mut_slice-slots.ensures.value ∙ c.in_ok-push_empty_slots.ensures.slots) g.T.Logic
     c.places.ensures.0 given many (c.put_each.ensures given runs)
 
-as_many : {text : List ℕ} (one : HasOneTree text) (count : ℕ) → (tree : Tree Question)
-    × HasTree text tree × (count ≡ length (asked tree)) → count ≡ length (asked one.tree)
-as_many one count answers =
-    answers.2 ∙ ap (λ tree. length (asked tree)) (only_tree one answers.0 answers.1)
-
 pub unwrap-requires : goal.unwrap-requires
 unwrap-requires g c =
     let (given, runs, answers) = c.requires.given in
     rw (value g (goal.at.unwrap-requires g c).After-eval_nodes given runs
-    (as_many c.places.ensures.0 (length given) answers)) refl
+    (answers-many c.places.ensures.0 given answers)) refl
 
 pub returns-clause-value : goal.returns-clause-value
 returns-clause-value g c given runs answers = (
@@ -53,7 +47,7 @@ returns-clause-value g c given runs answers = (
   cc (
     c.unwrap.ensures,
     value g (goal.at.returns-clause-value g c).After-eval_nodes given runs
-        (as_many c.places.ensures.0 (length given) answers),
+        (answers-many c.places.ensures.0 given answers),
   ),
 )
 

@@ -1,18 +1,18 @@
 -- The parser begins anew, and what it reads is what the grammar answers.
 use Rattle.std.proofs.{Common.{Err, rules, ap, ◌∙◌}, lemmas.Result.err_from_is_err_and}
-use Rattle.cfgx_syntax.specs.Stripping.{strip}
 use Rattle.cfgx_parser.proofs.Whole.{Begins, Answers-fails, Answers-memory, Accepted, Short-read}
-use Rattle.cfg_expr.proofs.expr.condition.ConditionReader.read.{Given.Over, Goals.After-read_all}
-use Rattle.cfg_expr.proofs.expr.condition.ConditionReader.read.Goals as goal
+use Rattle.cfg_expr.proofs.expr.condition.ConditionReader.read_stripped.Given.{Over}
+use Rattle.cfg_expr.proofs.expr.condition.ConditionReader.read_stripped.Goals.{After-read_all}
+use Rattle.cfg_expr.proofs.expr.condition.ConditionReader.read_stripped.Goals as goal
 
 -- the parser starts at the text's start
-begins : (g : Over) (c : After-read_all g) → Begins {A = g.row.A.Denot} (strip c.args.text.now)
-    c.new-lexer.result c.begin.new.parser
+begins : (g : Over) (c : After-read_all g) → Begins {A = g.row.A.Denot} c.args.stripped.text.now
+    c.of_stripped-lexer.result c.begin.new.parser
 begins g c = search rules
 
 pub returns-in_err-begin-clause-answers : goal.returns-in_err-begin-clause-answers
 returns-in_err-begin-clause-answers g c =
-    Answers-memory (strip c.args.text.now) c.new-lexer.ensures.one _
+    Answers-memory c.args.stripped.text.now c.of_stripped-lexer.ensures.one _
     c.from_residual.result c.from_residual.ensures.1
 
 pub returns-in_err-read_all-clause-answers : goal.returns-in_err-read_all-clause-answers

@@ -2,7 +2,7 @@
 use Rattle.std.proofs.Common.{◌≡◌, ◌<◌, ◌≤◌, ◌+◌, ◌++◌, false, length, true, vec_capacity}
 use Rattle.std.specs.List.{AllByRecursion}
 use Rattle.cfg_expr.specs.nodes.Parity.{filled_at}
-use Rattle.cfg_expr.proofs.expr.filling.fill.Given as goal
+use Rattle.cfg_expr.proofs.expr.filling.set_fillings.Given as goal
 
 abbrev pub invariant-loop-place : goal.invariant-loop-place
 invariant-loop-place g l =
