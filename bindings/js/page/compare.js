@@ -4,7 +4,7 @@ import { joined } from "./conditions.js";
 import { byId, code, element } from "./dom.js";
 import { countsOf } from "./picture.js";
 import { Budget } from "./search.js";
-import { TRIPLES, Values } from "./values.js";
+import { TRIPLES, Values, decidedOf } from "./values.js";
 import { answersInWords, counted } from "./words.js";
 
 // What the searches of a comparison may spend together, a third of it each.
@@ -31,13 +31,21 @@ function counterexample(one, other) {
   return { isWhole: values.isWhole };
 }
 
+// The last comparison, and of what it was.
+let last = {};
+
 /** Returns the comparison of two conditions, with what the switches say. */
 export function compared(one, other, decided) {
-  return {
-    forth: counterexample(one, other),
-    back: counterexample(other, one),
-    values: new Values(joined(apart, one, other), decided, new Budget(BUDGET / 3)),
-  };
+  const key = [one, other].map((each) => decidedOf(each, decided)).join(" ");
+  if (last.one !== one || last.other !== other || last.key !== key) {
+    last = {
+      one, other, key,
+      forth: counterexample(one, other),
+      back: counterexample(other, one),
+      values: new Values(joined(apart, one, other), decided, new Budget(BUDGET / 3)),
+    };
+  }
+  return last;
 }
 
 /** Returns the sentence that says whether one condition implies another. */

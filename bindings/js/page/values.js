@@ -101,15 +101,30 @@ export class Values {
   }
 }
 
-/** Returns the values of conditions, in their order. Their searches share a budget. */
+// The values of conditions, and what was decided of their predicates.
+const kept = new WeakMap();
+
+/** Returns the numbers of what is decided of the predicates of a condition, as a text. */
+export function decidedOf(condition, decided) {
+  return condition.distinct.map((text) => numberOf(decided.get(text))).join("");
+}
+
+/** Returns the values of conditions, in their order. Their searches share a budget. Those of a
+ * condition are kept as long as nothing else is decided, and if all of them were found. */
 export function valuesOf(conditions, decided) {
   answers.of(conditions.flatMap((one) => one.distinct));
   let left = BUDGET;
   return conditions.map((one, at) => {
+    const key = decidedOf(one, decided);
+    const old = kept.get(one);
+    if (old?.key === key) {
+      return old.values;
+    }
     const share = new Budget(left / (conditions.length - at));
     const before = share.left;
     const values = new Values(one, decided, share);
     left -= before - Math.max(share.left, 0);
+    kept.set(one, { key: values.isWhole ? key : undefined, values });
     return values;
   });
 }
