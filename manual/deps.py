@@ -1,4 +1,4 @@
-"""The page on the command `cfgx-deps`, which is made of what `cfgx-deps --help` prints."""
+"""The pages on the commands `cfgx-deps` and `cfgx-code`, each made of what its `--help` prints."""
 import argparse
 import functools
 import importlib
@@ -12,14 +12,26 @@ from roff import Page, bold, code, escaped, italic, reference
 
 ROOT = os.path.dirname(os.path.dirname(os.path.abspath(__file__)))
 PACKAGE = "bindings/python/src/cfgx"
+# The table of targets, whose lines begin with a triple and a tab, below two others.
+TARGETS = f"{PACKAGE}/targets.tsv"
 MANUAL = "User Commands"
-NAME = "cfgx-deps"
-# Where pip puts the page with all that the command does, below the folder of the environment.
-EXPLAINED = "share/doc/cfgx/docs/MANIFESTS.md"
 # Wider than any line, so that no text is broken, whatever the width of a terminal is.
 WIDE = 100000
 # A word in capitals, which stands for others.
 METAVAR = re.compile(r"\b[A-Z]{2,}\b")
+
+
+class Command(NamedTuple):
+    """A command of the package for Python."""
+    name: str
+    arguments: str
+    """The module with its arguments."""
+    explained: str
+    """Where pip puts the page with all that it does, below the folder of the environment."""
+
+
+DEPS = Command("cfgx-deps", "cfgx._arguments", "share/doc/cfgx/docs/MANIFESTS.md")
+CODE = Command("cfgx-code", "cfgx._code_arguments", "share/doc/cfgx/docs/CODE.md")
 
 
 class Help(NamedTuple):
@@ -31,15 +43,15 @@ class Help(NamedTuple):
     ending: str
 
 
-def text() -> str:
-    """Returns what `--help` prints, with each argument in a line. The import of the package needs
+def text(command: Command) -> str:
+    """Returns what `--help` of a command prints, with each argument in a line. The import of the package needs
     the library, so empty modules stand for the packages."""
     sys.dont_write_bytecode = True
-    for name in ("cfgx", "cfgx.manifest"):
+    for name in ("cfgx", "cfgx.manifest", "cfgx.code"):
         module = types.ModuleType(name)
         module.__path__ = [os.path.join(ROOT, PACKAGE, *name.split(".")[1:])]
         sys.modules[name] = module
-    made = importlib.import_module("cfgx._arguments").parser_of(argparse.ArgumentParser)
+    made = importlib.import_module(command.arguments).parser_of(argparse.ArgumentParser)
     made.formatter_class = functools.partial(
         argparse.HelpFormatter, max_help_position=WIDE, width=2 * WIDE
     )
@@ -48,12 +60,17 @@ def text() -> str:
     return made.format_help()
 
 
-def help_of(printed: str) -> Help:
-    """Returns the parts of what `--help` prints."""
+def targets(table: str) -> List[str]:
+    """Returns the triples in the table of targets."""
+    return [line.split("\t")[0] for line in table.splitlines()[2:]]
+
+
+def help_of(command: Command, printed: str) -> Help:
+    """Returns the parts of what `--help` of a command prints."""
     usage, description, *lists, ending = printed.rstrip().split("\n\n")
-    named = re.fullmatch(rf"usage: {NAME} (.*)", usage)
+    named = re.fullmatch(rf"usage: {command.name} (.*)", usage)
     if not named:
-        raise ValueError(f"this is no usage of {NAME}: {usage!r}")
+        raise ValueError(f"this is no usage of {command.name}: {usage!r}")
     arguments = re.findall(r"^  (\S.*?)  +(\S.*)$", "\n".join(lists), re.M)
     return Help(re.findall(r"\[.*?\]", named[1]), description, arguments, ending)
 
@@ -65,16 +82,16 @@ def words_of(argument: str) -> str:
                    if part)
 
 
-def page_of(printed: str, version: str) -> str:
-    """Returns the page."""
-    told = help_of(printed)
-    page = Page(NAME, 1, version, MANUAL, f"what {NAME} prints")
+def page_of(command: Command, printed: str, version: str) -> str:
+    """Returns the page on a command."""
+    told, name = help_of(command, printed), command.name
+    page = Page(name, 1, version, MANUAL, f"what {name} prints")
     summary = re.sub(r"\. .*", "", told.description).rstrip(".")
     page.section("NAME")
-    page.paragraph(f"{escaped(NAME)} \\- {escaped(summary[:1].lower() + summary[1:])}")
+    page.paragraph(f"{escaped(name)} \\- {escaped(summary[:1].lower() + summary[1:])}")
     page.section("SYNOPSIS")
     shown = (words_of(one).replace(" ", "\\ ") for one in told.usage)
-    page.paragraph(" ".join([bold(NAME), *shown]))
+    page.paragraph(" ".join([bold(name), *shown]))
     page.section("DESCRIPTION")
     page.paragraph(escaped(told.description))
     page.section("OPTIONS")
@@ -84,5 +101,5 @@ def page_of(printed: str, version: str) -> str:
     page.paragraph(escaped(told.ending))
     page.section("SEE ALSO")
     page.paragraph(", ".join(reference(*one) for one in (("cfgx", 1), ("cargo", 1), ("rustc", 1))))
-    page.paragraph(f"{code(EXPLAINED)}, below the folder into which pip puts the command.")
+    page.paragraph(f"{code(command.explained)}, below the folder into which pip puts the command.")
     return page.text()

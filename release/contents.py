@@ -4,32 +4,49 @@ import sys
 from typing import Dict, NamedTuple, Tuple
 
 from packing import File
-from pages import named, reached, relinked
-from repository import BUILT, ROOT, STAMP, output_of, project, read, soname, tracked, version
+from pages import named, pictures, reached, relinked
+from repository import (
+    BUILT, ROOT, STAMP, output_of, project, project_list, read, soname, tracked, version,
+)
 from stamp import PLATFORMS as LIBRARIES
 from targets import (
-    ARM_LINUX, ARM_MAC, ELF, FAMILIES, PLATFORMS, WINDOWS_GNU, X86_LINUX, X86_MAC, Platform,
+    ARM_LINUX, ARM_MAC, ELF, FAMILIES, PLATFORMS, WASM_32, WINDOWS_GNU, X86_LINUX, X86_MAC,
+    Platform,
 )
 
 Files = Dict[str, File]
 
 LICENSES = ("LICENSE-APACHE", "LICENSE-MIT", "LICENSES/LicenseRef-cfgx-kit.txt", "NOTICE")
 
-# The first pages of the archives for C, Rust and Python.
+# The first pages of the archives for C, Rust, Python and JavaScript.
 README = "README.md"
 RUST_README = "bindings/rust/README.md"
 PYTHON_README = "bindings/python/README.md"
-# Where the archive for Rust has the page whose place its own README takes.
+JAVASCRIPT_README = "bindings/js/README.md"
+# Where the archives for Rust and JavaScript have the page whose place its own README takes.
 MOVED = "docs/CFGX.md"
 # Where pip puts the pages of a wheel, below the folder of the environment.
 DOCUMENTS = "share/doc/cfgx"
-# Where it puts the manual page of the command, and what makes this page.
-MANUAL = "share/man/man1/cfgx-deps.1"
-MANUAL_MAKER = ("-B", "manual/make", "deps")
+# Where it puts what is made of the commands: manual pages, and what shells complete its words by,
+# where they look for it. Behind each stands what it is made by.
+MAKER = ("-B", "manual/make")
+MADE = {
+    "share/man/man1/cfgx-code.1": ("code",),
+    "share/man/man1/cfgx-deps.1": ("deps",),
+    "share/bash-completion/completions/cfgx-deps": ("completion", "bash"),
+    "share/fish/vendor_completions.d/cfgx-deps.fish": ("completion", "fish"),
+    "share/zsh/site-functions/_cfgx-deps": ("completion", "zsh"),
+}
+
+# What makes the page.
+PAGE_MAKER = ("-B", "bindings/js/page/make")
 
 # The file for pkg-config leads from its own folder to the others.
 PC = "lib/pkgconfig/cfgx.pc"
 RELATIVE = "prefix=${pcfiledir}/../..\n"
+
+# The commands of the package.
+SCRIPTS = ("cargo-cfgx-deps", "cfgx-code", "cfgx-deps")
 
 
 class Wheel(NamedTuple):
@@ -61,14 +78,17 @@ METADATA = """Metadata-Version: 2.4
 Name: {name}
 Version: {version}
 Summary: {summary}
+Author: {author}
+Keywords: {keywords}
 License-Expression: {license}
-{licenses}Requires-Python: {python}
+{licenses}{classifiers}Requires-Python: {python}
 Description-Content-Type: text/markdown
 
 This wheel has the library inside, and pip installs it without `setuptools`. A release has one for
 each system, which the end of its name says. They differ in the library alone. pip puts the pages
-into the folder `{documents}` of the environment, and the manual page of `cfgx-deps` into
-`share/man`.
+into the folder `{documents}` of the environment, the manual page of `cfgx-deps` into `share/man`,
+and what bash, fish and zsh complete its words by into the folders below `share` where they look for
+it.
 
 {description}"""
 WHEEL = "Wheel-Version: 1.0\nGenerator: release/make of cfgx\nRoot-Is-Purelib: false\n"
@@ -81,15 +101,17 @@ def licenses(folder: str = "") -> Files:
 
 
 def pages(first: str, moved: Dict[str, str]) -> Files:
-    """Returns a page and all those to which its links lead, by their places in an archive: each
-    has the path that it has in the repository, or the one in `moved`. At the top of the archive
-    stand the licences."""
+    """Returns a page and all those to which its links lead, with the pictures that they show, by
+    their places in an archive: each has the path that it has in the repository, or the one in
+    `moved`. At the top of the archive stand the licences."""
     places = {page: moved.get(page, page) for page in reached(first)}
+    shown = {path: path for page in places for path in pictures(page)}
     others = {path: path for path in LICENSES}
-    return {
-        place: File(relinked(page, {**others, **places}).encode())
+    told = {
+        place: File(relinked(page, {**others, **shown, **places}).encode())
         for page, place in places.items()
     }
+    return {**told, **{path: File(read(path)) for path in shown}}
 
 
 def installed() -> Files:
@@ -181,20 +203,42 @@ def rust_files() -> Files:
     return {**code, **libraries, **licenses(), **licenses("cfg-expr/"), **told}
 
 
+def javascript_files() -> Files:
+    """Returns the files of the package for JavaScript, with the module inside, as `npm` unpacks
+    them."""
+    top = "bindings/js/"
+    sources = tracked(top + "package.json", top + "src")
+    code = {path[len(top):]: File(read(path)) for path in sources}
+    module = {f"src/{WASM_32.shared}": library(WASM_32, WASM_32.shared)._replace(is_program=False)}
+    told = pages(JAVASCRIPT_README, {JAVASCRIPT_README: README, README: MOVED})
+    files = {**code, **module, **licenses(), **told}
+    return {f"package/{path}": file for path, file in files.items()}
+
+
+def page() -> bytes:
+    """Returns the page that shows where a condition is true, with the module inside."""
+    return output_of(sys.executable, *PAGE_MAKER).encode()
+
+
 def information(wheel: Wheel) -> Files:
     """Returns what a wheel says of the package, by paths in the folder `.dist-info`."""
     fields = {
-        "name": "name", "summary": "description", "license": "license", "python": "requires-python",
+        "name": "name", "summary": "description", "license": "license", "author": "authors",
+        "python": "requires-python",
     }
     told = {field: project(name)[0] for field, name in fields.items()}
-    files = "".join(f"License-File: {path}\n" for path in LICENSES)
-    metadata = METADATA.format(**told, version=version(), licenses=files, documents=DOCUMENTS,
+    listed = {
+        "licenses": "".join(f"License-File: {path}\n" for path in LICENSES),
+        "classifiers": "".join(f"Classifier: {one}\n" for one in project_list("classifiers")),
+        "keywords": ",".join(project("keywords")),
+    }
+    metadata = METADATA.format(**told, **listed, version=version(), documents=DOCUMENTS,
                                description=named(PYTHON_README, DOCUMENTS))
-    script, = project("cfgx-deps")
+    scripts = "".join(f"{name} = {project(name)[0]}\n" for name in SCRIPTS)
     texts = {
         "METADATA": metadata,
         "WHEEL": WHEEL + "".join(f"Tag: py3-none-{system}\n" for system in wheel.systems),
-        "entry_points.txt": f"[console_scripts]\ncfgx-deps = {script}\n",
+        "entry_points.txt": f"[console_scripts]\n{scripts}",
     }
     return {**{path: File(text.encode()) for path, text in texts.items()}, **licenses("licenses/")}
 
@@ -202,10 +246,11 @@ def information(wheel: Wheel) -> Files:
 def documents() -> Files:
     """Returns the pages and the licences of a wheel, by paths in the folder `.data`, whose part
     `data` pip puts into the folder of the environment."""
-    manual = File(output_of(sys.executable, *MANUAL_MAKER).encode())
+    made = {path: File(output_of(sys.executable, *MAKER, *words).encode())
+            for path, words in MADE.items()}
     told = {f"{DOCUMENTS}/{path}": file
             for path, file in {**licenses(), **pages(PYTHON_README, {})}.items()}
-    return {f"data/{path}": file for path, file in {**told, MANUAL: manual}.items()}
+    return {f"data/{path}": file for path, file in {**told, **made}.items()}
 
 
 def python_files(named_version: str, wheel: Wheel) -> Files:

@@ -87,10 +87,11 @@ def filled(form: str, places: Dict[str, str]) -> str:
 
 def text(version: str, commit: repository.Commit, held: Dict[str, Dict[str, File]]) -> str:
     """Returns the text. `held` has the files of each archive, by the name of the archive: those for
-    C, for Python and for Rust."""
+    C, for Python, for Rust and for JavaScript."""
     kit, changes = repository.kit(), ", and changes after it" if commit.is_changed else ""
-    c_names = [name for name in held if not name.endswith(".whl")]
+    c_names = [name for name in held if name.endswith(".tar.gz")]
     wheels = [name for name in held if name.endswith(".whl")]
+    javascript, = (name for name in held if name.endswith(".tgz"))
     rust = c_names.pop()
     places = {
         "VERSION": version, "COMMIT": commit.name + changes, "DATE": commit.date(),
@@ -104,6 +105,8 @@ def text(version: str, commit: repository.Commit, held: Dict[str, Dict[str, File
         "RUST": repository.rust_field("Cargo.toml", "rust-version"),
         "C_SECTIONS": "\n".join(c_section(name, held[name]) for name in c_names),
         "RUST_NAME": rust, "RUST_FILES": rows(held[rust]),
+        "NODE": repository.node_version(),
+        "JAVASCRIPT_NAME": javascript, "JAVASCRIPT_FILES": rows(held[javascript]),
     }
     head, python, end = SECTION.split(repository.read_text("release/MANIFEST.in"))
     own = [{"PYTHON_NAME": name, "PYTHON_FILES": rows(held[name])} for name in wheels]

@@ -36,6 +36,11 @@ def linked(page: str) -> List[str]:
     return [target(page, link) for link in LINK.finditer(text) if is_inside(link)]
 
 
+def pictures(page: str) -> List[str]:
+    """Returns the paths of the pictures that a page shows."""
+    return [path for path in linked(page) if path.endswith(".png")]
+
+
 def reached(first: str) -> List[str]:
     """Returns a page and each one to which links lead from it, over other pages too."""
     found = [first]

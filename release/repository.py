@@ -1,5 +1,6 @@
 """What is asked of the repository, of its commit, and of the kit that built it."""
 import functools
+import json
 import os
 import re
 import subprocess
@@ -79,11 +80,24 @@ def project(name: str) -> List[str]:
     return re.findall(r'"(.*?)"', line)
 
 
+def project_list(name: str) -> List[str]:
+    """Returns what stands in quotes in the list of this name in the project of the package, which
+    is one of several lines."""
+    found, = re.findall(rf"^{name} = \[\n(.*?)^\]$", read_text(PROJECT), re.M | re.S)
+    return re.findall(r'"(.*?)"', found)
+
+
 def rust_field(manifest: str, name: str) -> str:
     """Returns what a line of the manifest of a package in `bindings/rust` has in quotes."""
     text = read_text(f"bindings/rust/{manifest}")
     found, = re.findall(rf'^{name} = "(.*)"$', text, re.M)
     return found
+
+
+def node_version() -> str:
+    """Returns the least version of Node that the package for JavaScript needs."""
+    package = json.loads(read_text("bindings/js/package.json"))
+    return str(package["engines"]["node"]).lstrip(">=")
 
 
 def commit() -> Commit:

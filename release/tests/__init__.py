@@ -18,6 +18,10 @@ C = f"cfgx-{VERSION}-x86_64-linux"
 RUST = f"cfgx-rust-{VERSION}"
 WHEEL = f"cfgx-{VERSION}-py3-none-manylinux_2_17_x86_64.manylinux2014_x86_64.whl"
 
+# The package for JavaScript, and the page.
+PACKAGE = f"cfgx-{VERSION}.tgz"
+HTML = "cfgx.html"
+
 # The archives for C for other platforms: the end of the name, and the folders of `out/platforms`
 # from which the libraries are.
 FAMILIES = (
@@ -63,10 +67,15 @@ def path_of(name):
     return os.path.join(FOLDER, name)
 
 
-def files_of(name):
-    """Returns the bytes of the files of an archive for C or Rust, by their paths."""
-    with tarfile.open(path_of(f"{name}.tar.gz")) as archive:
+def files_in(name):
+    """Returns the bytes of the files of an archive for C, Rust or JavaScript, by their paths."""
+    with tarfile.open(path_of(name)) as archive:
         return {one.name: archive.extractfile(one).read() for one in archive if one.isfile()}
+
+
+def files_of(name):
+    """Returns the bytes of the files of an archive for C or Rust, whose ending is left out."""
+    return files_in(f"{name}.tar.gz")
 
 
 def c_for(family):

@@ -27,12 +27,20 @@ METADATA_FIELDS = (
     ("License-Expression", [LICENSE]),
     ("License-File", list(LICENSES)),
     ("Requires-Python", [">=3.8"]),
+    ("Author", ["the Puksiev maintainers"]),
+    ("Keywords", ["cargo,cfg,dependencies,platform,target"]),
 )
 
 # The platform of this machine.
 HERE = "x86_64-unknown-linux-gnu"
-# The manual page of the command.
+# The manual page of the command, and what shells read to complete its words: bash as its package
+# `bash-completion` says, fish in a folder for vendors, and zsh where `fpath` has its functions.
 MANUAL = f"{DATA}/data/share/man/man1/cfgx-deps.1"
+COMPLETING = {
+    "bash": f"{DATA}/data/share/bash-completion/completions/cfgx-deps",
+    "fish": f"{DATA}/data/share/fish/vendor_completions.d/cfgx-deps.fish",
+    "zsh": f"{DATA}/data/share/zsh/site-functions/_cfgx-deps",
+}
 
 # The programs and shared objects in the archives; every other file has the mode 644.
 PROGRAMS = {f"{C}/bin/cfgx", f"{C}/lib/libcfgx.so.{VERSION}", f"cfgx/{SONAME}"}
@@ -89,7 +97,7 @@ class Archives(unittest.TestCase):
         for name, wanted in ((C, c), (RUST, rust)):
             found = {path[len(name) + 1:] for path in files_of(name)}
             others = {path for path in found
-                      if path.endswith(".md") or path in LICENSES or path.startswith("cfg-expr/LIC")
+                      if path.endswith((".md", ".png")) or path in LICENSES or path.startswith("cfg-expr/LIC")
                       or path == "cfg-expr/NOTICE"}
             self.assertEqual(sorted(found - others), sorted({*wanted} - others))
 
@@ -206,11 +214,30 @@ class Wheel(unittest.TestCase):
             self.assertEqual(padded.hex(), hashlib.sha256(data).hexdigest(), name)
 
     def test_entry_points(self):
-        """The command is the one that a wheel from the folder of the package would have."""
-        script, = re.findall(r'^cfgx-deps = "(.*)"$',
+        """The commands are those that a wheel from the folder of the package would have."""
+        scripts = re.findall(r'^(\S*cfgx-\w+) = "(.*)"$',
                              repository.read_text("bindings/python/pyproject.toml"), re.M)
+        self.assertEqual(len(scripts), 3)
+        lines = sorted(" = ".join(script) for script in scripts)
         self.assertEqual(self.archive.read(f"{INFORMATION}/entry_points.txt").decode(),
-                         f"[console_scripts]\ncfgx-deps = {script}\n")
+                         "\n".join(["[console_scripts]", *lines, ""]))
+
+    def test_classifiers(self):
+        text = self.archive.read(f"{INFORMATION}/METADATA").decode()
+        found = re.findall("^Classifier: (.*)$", text.split("\n\n")[0], re.M)
+        project = repository.read_text("bindings/python/pyproject.toml")
+        self.assertGreater(len(found), 5)
+        self.assertEqual([f'    "{one}",' for one in found],
+                         [line for line in project.splitlines() if " :: " in line])
+        # The expression says the licence, and no classifier may say it again.
+        self.assertFalse([one for one in found if one.startswith("License")])
+
+    def test_completion(self):
+        for shell, path in COMPLETING.items():
+            text = self.archive.read(path).decode()
+            self.assertIn("fail-on", text, shell)
+            self.assertIn("x86_64-pc-windows-gnullvm", text, shell)
+        self.assertTrue(self.archive.read(COMPLETING["zsh"]).startswith(b"#compdef cfgx-deps\n"))
 
     def test_the_manual_page_is_that_of_the_command(self):
         page = re.sub(r"\\(?:f[BIP]|%)?", "", self.archive.read(MANUAL).decode())
@@ -224,7 +251,8 @@ class Wheel(unittest.TestCase):
         top = "bindings/python/src/"
         code = [path[len(top):] for path in repository.tracked(top)]
         told = [f"{INFORMATION}/{name}"
-                for name in ("METADATA", "RECORD", "WHEEL", "entry_points.txt")] + [MANUAL]
+                for name in ("METADATA", "RECORD", "WHEEL", "entry_points.txt")]
+        told += [MANUAL, *COMPLETING.values()]
         others = (f"{INFORMATION}/licenses/", f"{DATA}/data/share/doc/cfgx/")
         names = self.archive.namelist()
         self.assertEqual(len(names), len({*names}))

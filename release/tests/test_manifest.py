@@ -9,8 +9,8 @@ import unittest
 import zlib
 
 from . import (
-    ARCHIVES, C, FAMILIES, FOLDER, RUST, VERSION, WHEELS, c_for, files_of, files_of_wheel, path_of,
-    wheel_for,
+    ARCHIVES, C, FAMILIES, FOLDER, PACKAGE, RUST, VERSION, WHEELS, c_for, files_in, files_of_wheel,
+    path_of, wheel_for,
 )
 
 import repository
@@ -26,6 +26,7 @@ ENGINES = [
       for name in ("libcfgx.a", "libcfgx.dylib")),
     *(f"cfgx/{library}" for _, library, *_ in WHEELS),
     *(f"{RUST}/lib/{folder}/{name}" for folder, name, _ in ARCHIVES),
+    "package/src/cfgx.wasm",
 ]
 # The tools that link a library, or lower one.
 TOOLS = ("cc", "ld", "aarch64-linux-gnu-gcc", "aarch64-linux-gnu-ld", "x86_64-w64-mingw32-gcc",
@@ -44,7 +45,7 @@ PLATFORMS = [
 PAGE = 4096
 # The archives in the order of the sections.
 NAMES = [f"{C}.tar.gz", *(f"{c_for(family)}.tar.gz" for family, _ in FAMILIES),
-         *(wheel_for(systems) for systems, *_ in WHEELS), f"{RUST}.tar.gz"]
+         *(wheel_for(systems) for systems, *_ in WHEELS), f"{RUST}.tar.gz", PACKAGE]
 
 
 def printed(*words, **variables):
@@ -76,7 +77,7 @@ class Manifest(unittest.TestCase):
         _, found = sections()
         for name in NAMES:
             is_wheel = name.endswith(".whl")
-            files = files_of_wheel(name) if is_wheel else files_of(name[:-len(".tar.gz")])
+            files = files_of_wheel(name) if is_wheel else files_in(name)
             rows = [(f"{sum_of(data)}  {path}", path) for path, data in files.items()]
             rows = [(row + "  (engine)" if path in ENGINES else row, path) for row, path in rows]
             if not is_wheel:

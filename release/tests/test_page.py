@@ -68,6 +68,10 @@ class Page(Shown):
         self.variables["CARGO_TARGET_DIR"] = os.path.join(self.folder, "target")
         self.check("From Rust")
 
+    def test_javascript(self):
+        self.need("the package for JavaScript of a release", "npm", "node")
+        self.check("From JavaScript")
+
     def test_windows(self):
         """The C library of Windows ends each line otherwise, which is read here as a line feed."""
         self.need("the library of a release on Windows", "x86_64-w64-mingw32-gcc",

@@ -9,8 +9,8 @@ import repository
 
 # The pages that someone has to have who uses what is in an archive.
 NEEDED = ("CHANGELOG.md", "README.md", *(f"docs/{name}.md" for name in (
-    "C", "CALLING", "DEFINITIONS", "DIFFERENCES", "MANIFESTS", "PROVED", "PYTHON", "README",
-    "RELEASE", "RULES", "RUST",
+    "ALTERNATIVES", "C", "CALLING", "DEFINITIONS", "DIFFERENCES", "MANIFESTS", "PROVED", "PYTHON",
+    "README", "RELEASE", "RULES", "RUST",
 )), "bench/README.md", "bindings/python/README.md", "bindings/rust/README.md")
 
 # Each archive: its files, the folder that stands for the repository, the page to begin with, and

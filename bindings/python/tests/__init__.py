@@ -7,6 +7,7 @@ there. If CFGX_PYTHON has words, they start Python by these: for another process
 machine does not run by itself."""
 import atexit
 import functools
+import importlib.util
 import os
 import shutil
 import subprocess
@@ -50,7 +51,12 @@ def is_there(name):
         return sys.platform == "linux"
     if name == "limit of memory":
         return "qemu" not in PYTHON[0]
-    if name not in ("cargo", "jq", "mypy", "rustc"):
+    if name == "a builder of wheels":
+        modules = ("setuptools", "wheel")
+        return all(importlib.util.find_spec(one) is not None for one in modules)
+    if name == "tomli":
+        return importlib.util.find_spec(name) is not None
+    if name not in ("bash", "cargo", "cc", "fish", "jq", "mypy", "rustc", "zsh"):
         raise ValueError(name)
     # A tool that rustup stands in for may lack its toolchain.
     pipe = subprocess.PIPE

@@ -86,14 +86,13 @@ def slowness():
     return max(1.0, (time.process_time() - before) / 0.3)
 
 
-class Costs(Made):
-    """How much time and memory the command takes."""
+class Measured(Made):
+    """Measures how much time and memory the command takes."""
 
     def list_conditions(self, conditions):
         """Makes `cargo` list a dependency for each of some conditions, with all that a real one
         says, as long as a manifest has a megabyte. Returns how many there are."""
-        usual = dependency_of("b", source="registry+https://github.com/rust-lang/crates.io-index",
-                              req="^1", uses_default_features=True, features=[], registry=None)
+        usual = dependency_of("b")
         size = itertools.accumulate(len(f'"cfg({one})".dependencies.b="1"\n'.encode())
                                     for one in conditions)
         fitting = [one for one, end in zip(conditions, size) if end <= MOST - len(HEAD)]
@@ -126,8 +125,9 @@ class Costs(Made):
         seconds = usage.ru_utime + usage.ru_stime
         return process.returncode, errors, sum(sizes), seconds, usage.ru_maxrss / 1024
 
-    def assert_bounded(self, *words, is_whole=True):
-        """Runs the command, and compares what it takes with what it may take."""
+    def assert_bounded(self, *words, is_whole=True, what="answers to flags"):
+        """Runs the command, and compares what it takes with what it may take. `what` was not tried
+        out in whole, if it was not."""
         # On a busy machine, all that a processor does takes longer.
         for _ in range(3):
             before = slowness()
@@ -135,12 +135,16 @@ class Costs(Made):
             seconds /= (before + slowness()) / 2
             if seconds < SECONDS - CARGO:
                 break
-        told = "cfgx-deps: not all answers to flags were tried out: the budget of a report is spent"
+        told = f"cfgx-deps: not all {what} were tried out: the budget of a report is spent"
         wanted = (0, "") if is_whole else (3, f"{told}\n")
         self.assertEqual((status, errors), wanted)
         self.assertGreater(size, 1000)
         self.assertLess(seconds, SECONDS - CARGO)
         self.assertLess(megabytes, MEGABYTES)
+
+
+class Costs(Measured):
+    """How much time and memory the command takes."""
 
     def test_conditions(self):
         for name, (condition, is_whole, count) in MANIFESTS.items():
@@ -153,11 +157,19 @@ class Costs(Made):
         flags = ",".join(f"f{number}" for number in range(12))
         forms = ["--format=table"], ["--format=tsv", "--summary"], ["--format=json"]
         for target, words in zip((None, None, f"cfg(any({flags}))"), forms):
-            usual = dependency_of("b", target, req="^1", uses_default_features=True, features=[],
-                                  source="registry+https://github.com/rust-lang/crates.io-index")
+            usual = dependency_of("b", target)
             self.list(*({**usual, "name": f"a{number}"} for number in range(90_000)))
             with self.subTest(target=target, words=words):
                 self.assert_bounded(*words)
+
+    def test_sarif(self):
+        # The manifest is read for the places of the conditions.
+        count = self.list_conditions([f"a{number}" for number in range(40_000)])
+        lines = (f"[target.'cfg(a{number})'.dependencies]\nb=\"1\"\n" for number in range(count))
+        text = "".join(lines)
+        self.assertLess(len(text) / MOST, 1.4)
+        self.write("audited/Cargo.toml", text[:MOST])
+        self.assert_bounded("--format=sarif")
 
     def test_triples(self):
         self.list(*(dependency_of("b", f"a{number}") for number in range(40_000)))

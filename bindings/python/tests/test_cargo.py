@@ -129,7 +129,8 @@ class Listed(Folder):
         for kinds in (("proc-macro", "bin"), ("bin", "proc-macro", "test")):
             targets = [{"kind": [kind], "crate_types": [kind]} for kind in kinds]
             one = _cargo.package_of(
-                {"name": "a", "manifest_path": "/a", "targets": targets, "dependencies": []}
+                {"name": "a", "version": "1.0.0", "id": "a", "source": None,
+                 "manifest_path": "/a", "targets": targets, "dependencies": []}
             )
             self.assertEqual((one.has_macro, one.has_target_units), (True, True))
 
@@ -154,9 +155,9 @@ class Listed(Folder):
         rows = [
             ({"manifest": root}, "one two three"), ({"manifest": self.folder}, "one two three"),
             ({"manifest": self.folder + "/one"}, "one"),
-            ({"manifest": self.folder + "/one/Cargo.toml", "is_workspace": True}, "one two three"),
+            ({"manifest": self.folder + "/one/Cargo.toml", "workspace": True}, "one two three"),
             ({"manifest": self.folder + "/one", "packages": ["two"]}, "two"),
-            ({"manifest": root, "packages": ["three", "one"], "is_workspace": True}, "one three"),
+            ({"manifest": root, "packages": ["three", "one"]}, "one three"),
             ({"manifest": root, "packages": ["three", "one", "three"]}, "one three"),
         ]
         listed = [one.name for one in _cargo.workspace_of(root).packages]
@@ -184,7 +185,7 @@ class Listed(Folder):
         path = self.write_package(below, '[dependencies]\nb = "1"', '[workspace]\nmembers = ["two"]'
                                   ).replace(f'"{below}"', '"root"')
         self.assertEqual(len(manifest.report(path).rows), 1)
-        self.assertEqual(len(manifest.report(path, is_workspace=True).rows), 2)
+        self.assertEqual(len(manifest.report(path, workspace=True).rows), 2)
 
     def test_ways_to_a_manifest(self):
         self.write_package("a", entry("dependencies", "b"))

@@ -38,13 +38,16 @@ SHOWN = r"\n\terror\x07\x1b[2J\x7f\x85\x9b\xa0\u200e\u2028\u202e\u2066\ufeff"
 
 def dependency_of(name="a", target=None, **fields):
     """Returns a dependency as Cargo lists it."""
-    usual = {"name": name, "rename": None, "kind": None, "optional": False, "target": target}
+    usual = {"name": name, "rename": None, "kind": None, "optional": False, "target": target,
+             "source": "registry+https://github.com/rust-lang/crates.io-index", "req": "^1",
+             "uses_default_features": True, "features": [], "registry": None}
     return {**usual, **fields}
 
 
 def package_of(name, path, *dependencies, kind="lib"):
     """Returns a package as Cargo lists it."""
-    return {"name": name, "manifest_path": path, "dependencies": dependencies,
+    return {"name": name, "version": "0.1.0", "id": f"path+file://{path}#0.1.0", "source": None,
+            "manifest_path": path, "dependencies": dependencies,
             "targets": [{"kind": [kind], "crate_types": [kind]}]}
 
 

@@ -23,11 +23,20 @@ SHOWN = (
 )
 
 
+# What is printed of a dependency of which a row here says nothing else, in JSON and in TSV.
+USUAL = {"package_version": "1.2.3", "package_manifest": "/p/Cargo.toml", "requirement": "*",
+         "source": "path", "location": "/q", "default_features": True, "features": []}
+DETAILED = ("package_version\tpackage_manifest\trequirement\tsource\tlocation\tdefault_features\t"
+            "features")
+DETAILS = "\t1.2.3\t/p/Cargo.toml\t*\tpath\t/q\tyes\t"
+
+
 def row(name, values, condition=None, unknown=(), **options):
     """Returns a row with these values. Each unknown one has the next of the reasons."""
     reasons = iter(unknown)
     fields = {"package": "p", "renamed_from": None, "kind": "normal", "is_optional": False,
-              **options}
+              "package_version": "1.2.3", "package_manifest": "/p/Cargo.toml",
+              "source": manifest.Source("path", "/q"), **options}
     is_never, fault = fields.pop("is_never", False), fields.pop("fault", None)
     is_tried = fields.pop("is_tried", True)
     found = tuple(VALUES[value] for value in values)
@@ -153,12 +162,63 @@ class Table(unittest.TestCase):
 
     def test_a_width_for_an_explanation(self):
         made = report(row("a", "-?y", "cfg(loom)", [LOOM]))
-        whole = lines(made)[-4:-1]
-        self.assertEqual(whole[0], _table.EXPLANATION)
-        for width in (1, 5, _table.LEAST, _table.LEAST + 1, len(whole[0]) - 1, len(whole[0])):
-            most = max(width, _table.LEAST)
-            wanted = [line if len(line) <= most else line[:most - 2] + ".." for line in whole]
-            self.assertEqual(lines(made, width)[-4:-1], wanted)
+        whole = [_table.EXPLANATION, "  loom", "    a: yes if loom; no if not(loom)"]
+        narrow = [
+            "unknown: flags that", "  RUSTFLAGS may set (see", "  --cfg and", "  --no-other-cfg)",
+            "  loom", "    a: yes if loom; no", "      if not(loom)",
+        ]
+        middle = [
+            "unknown: flags that RUSTFLAGS may set (see --cfg and", "  --no-other-cfg)", *whole[1:],
+        ]
+        rows = [(None, whole), (200, whole), (68, whole), (67, middle), (24, narrow), (1, narrow)]
+        for width, wanted in rows:
+            with self.subTest(width=width):
+                self.assertEqual(lines(made, width)[-1 - len(wanted):-1], wanted)
+
+    def test_cells_of_a_terminal(self):
+        # Wide characters take two cells, and marks over others none.
+        found = lines(report(
+            row("日本語", "-yn", "cfg(a)"), row("ascii", "-ny", "cfg(b)"),
+            row("e\u0301t\u0301", "-yy", "cfg(c)"), row("ＡＢ (x)", "-nn", "cfg(d)"),
+            targets=("목표", "t2"),
+        ))
+        self.assertEqual(found[:5], [
+            "dependency  host  목표  t2   condition",
+            "日本語      -     yes   no   cfg(a)", "ascii       -     no    yes  cfg(b)",
+            "e\u0301t\u0301          -     yes   yes  cfg(c)", "ＡＢ (x)    -     no    no   cfg(d)",
+        ])
+
+    def test_a_width_in_cells(self):
+        made = report(row("日本", "-yn", f"cfg({'語' * 20})"))
+        # In front of the condition stand 27 cells. Of the next 24, the two dots take two.
+        for width in (51, 52):
+            self.assertEqual(lines(made, width)[1], f"日本        -     yes  no  cfg({'語' * 9}..")
+        self.assertEqual(lines(made, 53)[1], f"日本        -     yes  no  cfg({'語' * 10}..")
+
+    def test_colours(self):
+        made = report(row("yes", "-yn", "cfg(no)"), row("b", "-?y", None, [LOOM]),
+                      targets=("no", "unknown"))
+        found = list(_table.table_of(made, None, is_coloured=True))
+        self.assertEqual(found[:3], [
+            "dependency  host  no       unknown  condition",
+            "yes         -     \x1b[32myes\x1b[0m      \x1b[31mno\x1b[0m       cfg(no)",
+            "b           -     \x1b[33munknown\x1b[0m  \x1b[32myes\x1b[0m",
+        ])
+        plain = [re.sub("\x1b.*?m", "", line).rstrip() for line in found]
+        self.assertEqual(plain, lines(made))
+
+    def test_colours_of_a_summary(self):
+        made = report(row("a", "-yn", "cfg(no)"))
+        found = list(_table.summary_table_of(made, None, is_coloured=True))
+        self.assertEqual(found, list(_table.summary_table_of(made, None)))
+
+    def test_rows_that_are_left_out(self):
+        rows = [(0, 1, "1 row: 1 yes"), (1, 1, "1 of 2 rows: 1 yes"), (2, 0, "0 of 2 rows: none"),
+                (1, 0, "0 of 1 row: none"), (0, 2, "2 rows: 2 yes")]
+        for left_out, count, wanted in rows:
+            made = report(*[row("a", "-yy")] * count)
+            for table in (_table.table_of, _table.summary_table_of):
+                self.assertEqual(list(table(made, None, left_out))[-1], f"host h; {wanted}")
 
     def test_a_width_for_nothing(self):
         made = report(row("a-long-name", "-yy", "cfg(" + "x" * 40 + ")"))
@@ -229,17 +289,18 @@ class Programs(unittest.TestCase):
                 {"name": "t2", "triple": "t2", "host": False},
             ],
             "dependencies": [
-                {"package": "p", "name": "a", "renamed_from": "b", "kind": "normal",
+                {**USUAL, "package": "p", "name": "a", "renamed_from": "b", "kind": "normal",
                  "optional": True, "condition": "cfg(loom)", "values": ["-", "unknown", "unknown"],
                  "never": False, "tried": True, "fault": None,
                  "unknown": [{"platforms": [1, 2], "flags": ["loom"], "if_yes": {"loom": True},
                               "if_no": {"loom": False}}]},
-                {"package": "p", "name": "c", "renamed_from": None, "kind": "build",
+                {**USUAL, "package": "p", "name": "c", "renamed_from": None, "kind": "build",
                  "optional": False, "condition": "cfg(panic)", "values": ["no", "no", "no"],
                  "never": True, "unknown": [], "tried": True,
                  "fault": {"reason": "UNEXPECTED", "span": [4, 9]}},
-                {"package": "p", "name": "é\u202e", "renamed_from": None, "kind": "normal",
-                 "optional": False, "condition": None, "values": ["-", "unknown", "unknown"],
+                {**USUAL, "package": "p", "name": "é\u202e", "renamed_from": None,
+                 "kind": "normal", "optional": False, "condition": None,
+                 "values": ["-", "unknown", "unknown"],
                  "never": False, "tried": False, "fault": None,
                  "unknown": [{"platforms": [1], "flags": ["loom"], "if_yes": {"loom": True},
                               "if_no": {"loom": False}},
@@ -267,12 +328,14 @@ class Programs(unittest.TestCase):
         made = report(row("a", "-yn", "cfg(a)", kind="dev", is_optional=True),
                       row("b", "-y?", None, [LOOM]))
         self.assertEqual(list(_formats.tsv_of(made, False)), [
-            "package\tdependency\tkind\toptional\thost\tt1\tt2\tcondition",
-            "p\ta\tdev\tyes\t-\tyes\tno\tcfg(a)", "p\tb\tnormal\tno\t-\tyes\tunknown\t",
+            f"package\tdependency\tkind\toptional\thost\tt1\tt2\tcondition\t{DETAILED}",
+            f"p\ta\tdev\tyes\t-\tyes\tno\tcfg(a){DETAILS}",
+            f"p\tb\tnormal\tno\t-\tyes\tunknown\t{DETAILS}",
         ])
         self.assertEqual(list(_formats.tsv_of(made, True)), [
-            "package\tdependency\tkind\toptional\tyes\tno\tunknown\tnever\tcondition",
-            "p\ta\tdev\tyes\t1\t1\t0\tno\tcfg(a)", "p\tb\tnormal\tno\t1\t0\t1\tno\t",
+            f"package\tdependency\tkind\toptional\tyes\tno\tunknown\tnever\tcondition\t{DETAILED}",
+            f"p\ta\tdev\tyes\t1\t1\t0\tno\tcfg(a){DETAILS}",
+            f"p\tb\tnormal\tno\t1\t0\t1\tno\t{DETAILS}",
         ])
 
 

@@ -10,8 +10,8 @@ import unittest.mock
 from . import needs
 from .test_command import HOST, Made
 
-from cfgx import _process, manifest
-from cfgx.manifest import _cargo, _files, _flags, _platforms
+from cfgx import _files, _process, manifest
+from cfgx.manifest import _cargo, _flags, _platforms
 
 MOST = 1 << 20
 SPARSE = 4 << 30

@@ -1,6 +1,5 @@
 """The library: its header, how it is found, and memory."""
 import ctypes
-import fnmatch
 import itertools
 import os
 import re
@@ -346,10 +345,10 @@ class Project(unittest.TestCase):
     """What pip is told of the package, and what it exports."""
 
     def fields(self, name):
-        """Returns what stands in quotes in a line of the project."""
+        """Returns what stands in quotes in a value of the project, a list or a line."""
         with open(PROJECT, encoding="utf-8") as file:
-            line, = re.findall(rf"^{name} = (.*)$", file.read(), re.MULTILINE)
-        return re.findall(r'"(.*?)"', line)
+            value, = re.findall(rf"^{name} = (\[[^]]*\]|.*)$", file.read(), re.MULTILINE)
+        return re.findall(r'"(.*?)"', value)
 
     def test_its_version(self):
         """The first number is that of the language, as for the calls."""
@@ -357,16 +356,15 @@ class Project(unittest.TestCase):
         self.assertRegex(cfgx.__version__, rf"^{numbers_of('VERSION')['LANGUAGE']}\.\d+\.\d+$")
         with open(os.path.join(ROOT, "CHANGELOG.md"), encoding="utf-8") as page:
             text = " ".join(page.read().split())
-        self.assertIn(f", the Python package | {cfgx.__version__} |", text)
+        self.assertIn(f", the packages for Python and JavaScript | {cfgx.__version__} |", text)
 
     def test_its_files(self):
         numbers = numbers_of("VERSION")
         self.assertEqual(NAME, f"libcfgx.so.{numbers['LANGUAGE']}.{numbers['MAJOR']}")
-        *files, library, macos, windows = self.fields("cfgx")
-        self.assertEqual(files, ["py.typed", _targets.NAME])
-        self.assertTrue(fnmatch.fnmatch(NAME, library), library)
-        self.assertEqual({"darwin": macos, "win32": windows}, _library.NAMES)
-        for name in ("py.typed", _targets.NAME):
+        schemas = (f"manifest/{name}" for name in self.fields('"cfgx.manifest"'))
+        files = [*self.fields("cfgx"), *schemas]
+        self.assertEqual(files, ["py.typed", _targets.NAME, "manifest/schema.json"])
+        for name in files:
             self.assertTrue(os.path.exists(os.path.join(PACKAGE, "cfgx", name)))
 
     def test_the_python_that_it_needs(self):

@@ -10,8 +10,8 @@ from .made import Shell
 
 import cfgx
 import cfgx.manifest
-from cfgx import _command
-from cfgx.manifest import _cargo, _files, _flags, _search
+from cfgx import _command, _files
+from cfgx.manifest import _cargo, _flags, _reach, _search
 
 PAGE = os.path.join(ROOT, "docs", "PYTHON.md")
 README = os.path.join(ROOT, "README.md")
@@ -38,20 +38,39 @@ class Manifests(Shell):
 
     def write_watcher(self):
         """Writes the package on the page. Returns its folder."""
-        [manifest] = [text for language, text in blocks(MANIFESTS_PAGE) if language == "toml"]
+        manifest, _ = [text for language, text in blocks(MANIFESTS_PAGE) if language == "toml"]
         self.write("watcher/Cargo.toml", manifest)
         self.write("watcher/src/lib.rs")
         return os.path.join(self.folder, "watcher")
+
+    def write_app(self):
+        """Writes the package on the page that has a lock file, with all packages that it uses.
+        Returns its folder."""
+        packages = {
+            "app": ("dependencies.net", "build-dependencies.codegen"),
+            "net": ("target.'cfg(windows)'.dependencies.winsock",),
+            "codegen": ("target.'cfg(windows)'.dependencies.console",), "winsock": (),
+            "console": (),
+        }
+        for name, rows in packages.items():
+            lines = [f'[{row}]\npath = "../{row.rpartition(".")[2]}"' for row in rows]
+            sources = ["src/lib.rs", "build.rs"] if name == "app" else ["src/lib.rs"]
+            self.write_package(name, *lines, sources=sources)
+        path = os.path.join(self.folder, "app")
+        subprocess.run(["cargo", "generate-lockfile", "--offline", "-q"], cwd=path, check=True)
+        return path
 
     @needs(
         "cargo", "rustc", "jq",
         untested="the commands and tables of cfgx-deps on the page MANIFESTS",
     )
     def test_commands(self):
-        folder, host = self.write_watcher(), cfgx.manifest.report(self.write_watcher()).platforms[0]
+        watcher, app = self.write_watcher(), self.write_app()
+        host = cfgx.manifest.report(watcher).platforms[0]
         consoles = [text for language, text in blocks(MANIFESTS_PAGE) if language == "console"]
-        self.assertEqual(len(consoles), 4)
+        self.assertEqual(len(consoles), 6)
         for text in consoles:
+            folder = app if "--resolved" in text else watcher
             lines = text.splitlines(keepends=True)
             command = "".join(line[2:] for line in lines if line[:2] in ("$ ", "> "))
             wanted = "".join(line for line in lines if line[:2] not in ("$ ", "> "))
@@ -69,8 +88,8 @@ class Manifests(Shell):
     @needs("cargo", untested="the command of the page MANIFESTS that finds what is never true")
     def test_the_command_for_what_is_never_true(self):
         folder = self.write_watcher()
-        [command] = [text for language, text in blocks(MANIFESTS_PAGE)
-                     if language == "bash" and text.startswith("cfgx-deps ")]
+        command, _ = [text for language, text in blocks(MANIFESTS_PAGE)
+                      if language == "bash" and text.startswith("cfgx-deps ")]
         self.assertNotIn("never", self.output_of(command, folder))
         self.write("watcher/Cargo.toml", '[package]\nname = "a"\nversion = "0.1.0"\n'
                    "[target.'cfg(target_os = \"macosx\")'.dependencies]\nb = \"1\"\n")
@@ -78,6 +97,21 @@ class Manifests(Shell):
             self.output_of(command, folder)
         self.assertEqual(caught.exception.returncode, 1)
         self.assertIn("never", caught.exception.stdout.decode())
+
+    @needs("cargo", "Python 3.11 or tomli", untested="the command for a CI on the page MANIFESTS")
+    def test_the_command_for_a_ci(self):
+        folder = self.write_watcher()
+        _, command = [text for language, text in blocks(MANIFESTS_PAGE)
+                      if language == "bash" and text.startswith("cfgx-deps ")]
+        _, known = [text for language, text in blocks(MANIFESTS_PAGE) if language == "toml"]
+        self.write("watcher/known.toml", known)
+        with self.assertRaises(subprocess.CalledProcessError) as caught:
+            self.output_of(command, folder)
+        self.assertEqual(caught.exception.returncode, 1)
+        with open(MANIFESTS_PAGE, encoding="utf-8") as file:
+            [told] = re.findall("^`(cfgx-deps: unknown: .*)`:$", file.read(), re.M)
+        self.assertEqual(caught.exception.stderr.decode(), f"{told}\n")
+        self.assertIn("6 of 7 rows", caught.exception.stdout.decode())
 
     @needs("cargo", untested="the example in Python on the page MANIFESTS")
     def test_the_function(self):
@@ -101,18 +135,6 @@ class Manifests(Shell):
         known = {word for one in _command.parser()._actions for word in one.option_strings}
         self.assertEqual(told | {"--help", "-h", "--package", "--version"}, known)
 
-    def test_names_in_json(self):
-        with open(MANIFESTS_PAGE, encoding="utf-8") as file:
-            text = file.read()
-        tables = text[text.index("| member |"):text.index("With `--summary`, a row has")]
-        told = {word for cell in re.findall(r"^\| (`.*?) \|", tables, re.M)
-                for word in re.findall(r"`(\w+)`", cell)}
-        self.assertEqual(told, {
-            "version", "manifest", "platforms", "dependencies", "notes", "package", "name",
-            "renamed_from", "kind", "optional", "condition", "values", "unknown", "never", "fault",
-            "tried",
-        })
-
     def test_limits(self):
         with open(MANIFESTS_PAGE, encoding="utf-8") as file:
             text = " ".join(file.read().split("## Limits")[1].split("\n## ")[0].split())
@@ -126,10 +148,17 @@ class Manifests(Shell):
             f"a try as {_search.TRY:,} and as {_search.TRY_EACH} for each predicate",
             f"evaluation of the condition as {_search.CALL} and", f"is kept as {_search.KEPT}.",
             f"a flag that is listed as {_search.LISTED},",
-            f"less than {test_budget.SECONDS} seconds of a processor",
+            f"search for ways takes counts as {_reach.STEP}, and a step in a way that is kept as"
+            f" {_reach.KEPT_STEP:,}", f"less than {test_budget.SECONDS} seconds of a processor",
             f"and {test_budget.MEGABYTES} MB on 320 targets",
         ]
         self.assertEqual([one for one in told if one not in text], [])
+
+    def test_how_many_steps_are_shown(self):
+        with open(MANIFESTS_PAGE, encoding="utf-8") as file:
+            text = " ".join(file.read().split())
+        self.assertIn(f"Of a way with more than {_reach.MOST_STEPS} steps, the last"
+                      f" {_reach.MOST_STEPS} are shown.", text)
 
 
 def load_tests(loader, tests, pattern):

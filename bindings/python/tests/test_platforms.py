@@ -81,6 +81,10 @@ class Table:
         """Returns the facts of a target."""
         return LINES[triple] + (["flagged"] if is_with_flags else [])
 
+    def each(self, triples):
+        """Returns the facts of targets with flags."""
+        return [self.lines(triple, True) for triple in triples]
+
 
 def platforms_of(targets=(), facts=None, host=None, **options):
     """Returns the platforms over facts that are made up."""
@@ -331,7 +335,7 @@ class UnitGraph(Folder):
                 with self.subTest(variables=variables, targets=targets):
                     arguments = _flags.rustflags_of(variables)
                     report = manifest.report(
-                        path, targets, rustflags=arguments, has_other_flags=False
+                        path, targets, rustflags=arguments, no_other_cfg=True
                     )
                     self.assert_is_built(report, self.graph_of(path, *targets, **variables))
                     read = {row.dependency.condition for row in report.rows
@@ -345,7 +349,7 @@ class UnitGraph(Folder):
         flags = "-C target-feature=+avx2 -Cpanic=abort -O --cfg loom"
         for targets in ([LINUX], []):
             report = manifest.report(
-                path, targets, rustflags=flags.split(), has_other_flags=False, asks_rustc=True
+                path, targets, rustflags=flags.split(), no_other_cfg=True, rustc=True
             )
             self.assert_is_built(report, self.graph_of(path, *targets, RUSTFLAGS=flags))
             values = {row.values[-1] for row in report.rows if row.dependency.kind == "normal"}
@@ -356,8 +360,8 @@ class UnitGraph(Folder):
         script = RUSTC.replace("exec ", "").replace('"$@"', '"$@" | sed "s/^unix$/fast/"')
         rustc = self.write_program("own/rustc", script)
         for targets in ([LINUX], []):
-            report = manifest.report(path, targets, asks_rustc=True, environment={"RUSTC": rustc},
-                                     has_other_flags=False)
+            report = manifest.report(path, targets, rustc=True, environment={"RUSTC": rustc},
+                                     no_other_cfg=True)
             self.assert_is_built(report, self.graph_of(path, *targets, rustc=rustc))
             self.assertIn((Value.YES, "cfg(fast)"),
                           {(row.values[-1], row.dependency.condition) for row in report.rows})
@@ -366,12 +370,12 @@ class UnitGraph(Folder):
         path = self.write_conditions("unix", "windows", 'target_arch = "x86"')
         host = "i686-pc-windows-gnu"
         rustc = self.write_program("own/rustc", ON_HOST.format(host=host))
-        ways = [{"host": host}, {"asks_rustc": True, "environment": {"RUSTC": rustc}},
-                {"asks_rustc": True, "host": host}]
+        ways = [{"host": host}, {"rustc": True, "environment": {"RUSTC": rustc}},
+                {"rustc": True, "host": host}]
         for targets in ([LINUX], [host], []):
             units = self.graph_of(path, *targets, rustc=rustc)
             for options in ways:
-                report = manifest.report(path, targets, has_other_flags=False, **options)
+                report = manifest.report(path, targets, no_other_cfg=True, **options)
                 self.assertEqual(report.platforms[0].triple, host)
                 self.assert_is_built(report, units)
 
@@ -384,6 +388,6 @@ class UnitGraph(Folder):
                           " set"])
         self.assertEqual({row.values[1] for row in report.rows if row.dependency.kind == "normal"},
                          {Value.UNKNOWN})
-        report = manifest.report(path, [LINUX], flags=["loom"], has_other_flags=False)
+        report = manifest.report(path, [LINUX], cfg=["loom"], no_other_cfg=True)
         units = self.graph_of(path, LINUX, folder=os.path.dirname(path))
         self.assert_is_built(report, units)

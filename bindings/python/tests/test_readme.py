@@ -1,11 +1,11 @@
-"""The example of the README of the repository, which runs as it is printed there."""
+"""The example of docs/README.md, which runs as it is printed there."""
 import doctest
 import os
 import re
 
 from . import ROOT
 
-README = os.path.join(ROOT, "README.md")
+README = os.path.join(ROOT, "docs/README.md")
 
 
 def load_tests(loader, tests, pattern):

@@ -12,6 +12,8 @@ FOLDER = os.path.join("bindings", "targets")
 TABLE = os.path.join(FOLDER, "targets.tsv")
 RUST_SOURCE = os.path.join("bindings", "rust", "src", "targets", "builtins.rs")
 PYTHON_TABLE = os.path.join("bindings", "python", "src", "cfgx", "targets.tsv")
+JAVASCRIPT_TABLE = os.path.join("bindings", "js", "src", "targets_table.js")
+MADE = (RUST_SOURCE, PYTHON_TABLE, JAVASCRIPT_TABLE)
 UPDATE = os.path.join(FOLDER, "update")
 
 # A `rustc` whose targets are files of a folder, with the lines that it prints of each.
@@ -98,7 +100,7 @@ class Made(unittest.TestCase):
         folder = tempfile.TemporaryDirectory()
         self.addCleanup(folder.cleanup)
         self.root = os.path.realpath(folder.name)
-        for path in (UPDATE, RUST_SOURCE, PYTHON_TABLE):
+        for path in (UPDATE, *MADE):
             os.makedirs(os.path.dirname(os.path.join(self.root, path)), exist_ok=True)
         shutil.copy(os.path.join(ROOT, UPDATE), os.path.join(self.root, UPDATE))
         self.targets = os.path.join(self.root, "targets")
@@ -131,14 +133,14 @@ class Made(unittest.TestCase):
 
     def written(self):
         """Returns the texts of the files that are there."""
-        paths = (TABLE, RUST_SOURCE, PYTHON_TABLE)
-        there = [path for path in paths if os.path.exists(os.path.join(self.root, path))]
+        there = [path for path in (TABLE, *MADE) if os.path.exists(os.path.join(self.root, path))]
         return [self.read(path) for path in there]
 
     def test_the_table_and_what_is_made(self):
         self.assertEqual(self.run_update(), (0, ""))
         self.assertEqual(self.read(TABLE), WRITTEN)
         self.assertEqual(self.read(PYTHON_TABLE), WRITTEN)
+        self.assertIn(f"\nexport const TABLE = `{WRITTEN}`;\n", self.read(JAVASCRIPT_TABLE))
         lines = self.read(RUST_SOURCE).splitlines()
         for line in SOURCE_LINES:
             self.assertEqual(lines.count(line), 1, line)
@@ -148,7 +150,7 @@ class Made(unittest.TestCase):
         self.run_update()
         wanted = self.written()
         os.remove(os.path.join(self.root, "bin", "rustc"))
-        for path in (RUST_SOURCE, PYTHON_TABLE):
+        for path in MADE:
             self.write(path, "")
             status, said = self.run_update("--check")
             self.assertEqual((status, path in said), (1, True), said)

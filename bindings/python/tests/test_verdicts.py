@@ -255,7 +255,7 @@ class UnitGraph(Folder):
         for library, triple in itertools.product(LIBRARIES, targets):
             path = self.write_conditions(wanted, library)
             # Another compiler than that of the table may print other facts, as a nightly does.
-            report = manifest.report(path, [triple], has_other_flags=False, asks_rustc=True)
+            report = manifest.report(path, [triple], no_other_cfg=True, rustc=True)
             compared += self.assert_is_built(report, self.graph_of(path, triple))
         # Each kind of dependency, on the host and on the target.
         self.assertEqual(compared, len(LIBRARIES) * len(targets) * 51 * 3 * 2)
@@ -272,7 +272,7 @@ class UnitGraph(Folder):
         rustflags = " ".join(f"--cfg {flag}" for flag in flags)
         for targets in ([LINUX], []):
             report = manifest.report(
-                path, targets, flags=flags, has_other_flags=False, asks_rustc=True
+                path, targets, cfg=flags, no_other_cfg=True, rustc=True
             )
             units = self.graph_of(path, *targets, RUSTFLAGS=rustflags)
             compared = self.assert_is_built(report, units)
@@ -286,7 +286,7 @@ class UnitGraph(Folder):
             setting = dict(zip(FLAGS, given))
             names = [flag for flag in FLAGS if setting[flag]]
             units = self.graph_of(path, LINUX, RUSTFLAGS=" ".join(f"--cfg {one}" for one in names))
-            built = manifest.report(path, [LINUX], flags=names, has_other_flags=False)
+            built = manifest.report(path, [LINUX], cfg=names, no_other_cfg=True)
             self.assert_is_built(built, units)
             rows = [row for row in built.rows if row.dependency.kind == "normal"]
             compared += sum(map(self.compare, report.rows, rows, itertools.repeat(setting)))

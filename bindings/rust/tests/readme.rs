@@ -1,4 +1,4 @@
-//! The example of the README of the repository.
+//! The example of docs/README.md of the repository.
 
 #[test]
 fn the_example_has_its_value() -> Result<(), cfgx::ParseError> {

@@ -49,18 +49,12 @@ NamePredicates-asks text nodes (place ∷ asks) (question ∷ questions) cuts e 
     (NamesPredicate-found text nodes place question cuts (cc), rest)
 NamePredicates-asks text nodes (place ∷ asks) [] cuts e = absurd (cc)
 
--- a predicate and a question for each place
+-- a predicate for each place
 pub length-named : (text : List ℕ) (nodes : List ExprNode) (asks : List ℕ)
     → NamePredicates text nodes asks → length (predicates_at nodes asks) ≡ length asks
 length-named text nodes [] names = refl
 length-named text nodes (place ∷ asks) names =
     rw names.0.stands (ap suc (length-named text nodes asks names.1))
-
-pub length-asked : (text : List ℕ) (nodes : List ExprNode) (asks : List ℕ)
-    → NamePredicates text nodes asks → length (questions_at text nodes asks) ≡ length asks
-length-asked text nodes [] names = refl
-length-asked text nodes (place ∷ asks) names =
-    rw names.0.stands (ap suc (length-asked text nodes asks names.1))
 
 module _ {text : List ℕ} {nodes : List ExprNode} {asks : List ℕ} {tree : Tree Question}
     (k : KeepsTree text nodes asks tree) where

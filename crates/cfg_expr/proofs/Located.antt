@@ -9,11 +9,12 @@ use Rattle.cfgx_syntax.specs.Spans.{LiesIn}
 use Rattle.cfgx_syntax.specs.Token.{Spells, Token}
 use Rattle.cfgx_grammar.proofs.Alike.{Alike, AlikeEach}
 use Rattle.cfgx_grammar.proofs.ListLemmas.{all_of_both, all_of_first, all_of_second}
+use Rattle.cfgx_grammar.specs.Question.{Question}
 use Rattle.cfgx_grammar.specs.Tree.{Tree, Trees, asked, asked_by, count, is_function, is_leaf}
 use Rattle.cfgx_parser.proofs.Places.{read-places}
 use Rattle.cfgx_parser.proofs.Shapes.{places-shape}
 use Rattle.cfgx_parser.proofs.Spans.{whole_span-key, whole_span-value}
-use Rattle.cfgx_parser.specs.Located.{question_at, whole_span}
+use Rattle.cfgx_parser.specs.Located.{HasCut, question_at, whole_span}
 use Rattle.cfgx_parser.specs.ReadFrom.{AreRead, AreReadFrom, IsReadFrom}
 use Rattle.cfgx_parser.specs.nodes.KeepsTree.{KeepsOneTree, NamePredicates, predicate_at}
 use Rattle.cfgx_parser.specs.nodes.KeepsTree.{predicates_at, questions_at}
@@ -26,7 +27,7 @@ use Rattle.cfgx_parser.specs.declared.located.Span.{Span}
 use Rattle.cfg_expr.proofs.AskedPredicates.{NamePredicates-kept, filter_map-some}
 use Rattle.cfg_expr.proofs.AskedPredicates.{questions_at-kept}
 use Rattle.cfg_expr.specs.Located.{AreLocated, Locates, each_in_text_order, in_text_order}
-use Rattle.cfg_expr.specs.Located.{tree_map, trees_map}
+use Rattle.cfg_expr.specs.Fold.{tree_map, trees_map}
 
 -- Nodes whose images are those of a tree are those of a tree.
 
@@ -272,3 +273,22 @@ AreLocated-kept text nodes asks kept =
       listed = listed;
       read = subst (AreRead text) in_order kept.read;
     }
+
+-- Located predicates can be cut out of the text, and ask the questions.
+
+module _ (text : List ℕ) where
+  pub cuts-located : (questions : List Question) (predicates : List LocatedPredicate)
+      → AllZip (Locates text) questions predicates → AllByRecursion (HasCut text) predicates
+  cuts-located [] [] each = tt
+  cuts-located (question ∷ questions) (predicate ∷ predicates) each =
+      (each.0.cut, cuts-located questions predicates each.1)
+  cuts-located [] (predicate ∷ predicates) each = absurd each
+  cuts-located (question ∷ questions) [] each = absurd each
+
+  pub asks-located : (questions : List Question) (predicates : List LocatedPredicate)
+      → AllZip (Locates text) questions predicates → map (question_at text) predicates ≡ questions
+  asks-located [] [] each = refl
+  asks-located (question ∷ questions) (predicate ∷ predicates) each =
+      cc (each.0.asks, asks-located questions predicates each.1)
+  asks-located [] (predicate ∷ predicates) each = absurd each
+  asks-located (question ∷ questions) [] each = absurd each

@@ -27,7 +27,7 @@ use Rattle.cfgx_parser.specs.declared.asked.Asked.{Asked}
 use Rattle.cfgx_parser.specs.declared.asked.Asked.TheVariants.{KeyValue}
 use Rattle.cfgx_parser.specs.declared.located.LocatedPredicate.{LocatedPredicate}
 use Rattle.cfg_expr.specs.Located.{AreLocated, each_in_text_order, in_text_order}
-use Rattle.cfg_expr.specs.Located.{tree_map, trees_map}
+use Rattle.cfg_expr.specs.Fold.{tree_map, trees_map}
 
 -- What a key says alone and what it says with a value.
 

@@ -6,11 +6,12 @@ use Rattle.std.specs.List.{AllByRecursion}
 use Rattle.std.proofs.lemmas.{Slice.Zip.AllZip-map, List.append-nil}
 use Rattle.std.proofs.lemmas.List.{length-map, map-append}
 use Rattle.cfgx_grammar.specs.{Question.Question, Tree.{ListFunction, Tree, Trees, asked, count}}
+use Rattle.cfgx_grammar.{specs.Answer.HasOneTree, proofs.Answering.only_tree}
 use Rattle.cfg_expr.specs.Filling.{filled_by, polar, polarities, polarities_each, three_valued}
 use Rattle.cfg_expr.specs.Fold.{tree_fold}
 use Rattle.cfgx_grammar.proofs.Alike.{Alike, AlikeEach, asked-alike}
 use Rattle.cfg_expr.proofs.SameShapes.{polarities-shape}
-use Rattle.cfgx_parser.specs.nodes.Prefix.{Node, list_func, prefix, prefix_each, places}
+use Rattle.cfgx_parser.specs.nodes.Prefix.{Node, list_func, node_at, prefix, prefix_each, places}
 use Rattle.cfgx_parser.specs.nodes.Shape.{Shape, shape, shape_of}
 use Rattle.cfgx_parser.proofs.Shapes.{length-shape, places-shape}
 use Rattle.cfgx_parser.specs.declared.nodes.ExprNode.{ExprNode}
@@ -18,7 +19,7 @@ use Rattle.cfg_expr.specs.Deciding.{HoldsFillings, IsDecision}
 use Rattle.cfg_expr.specs.declared.expr.Decision.{Decision}
 use Rattle.cfg_expr.specs.declared.expr.Decision.TheVariants as decision
 use Rattle.cfg_expr.specs.nodes.Parity.{IsPassed, filled_at, members_of, pass, turned}
-use Rattle.cfg_expr.proofs.evaluated.{Nodes.read-mapped, Placed.places-inside}
+use Rattle.cfg_expr.proofs.evaluated.{Nodes.{read-mapped, shapes-kept}, Placed.places-inside}
 
 list_members : (function : ListFunction) (n : ℕ) (odd : Bool)
     → members_of (Shape.function (list_func function n)) odd ≡ replicate n odd
@@ -93,16 +94,16 @@ module _ (nodes : List ExprNode) (tree : Tree Question)
       ∙ sym (length-shape tree _ (polarities-shape false tree))
 
   -- the pass of the nodes tells of each
-  pub nodes-passed : IsPassed (map shape nodes) (false ∷ [])
+  nodes-passed : IsPassed (map shape nodes) (false ∷ [])
   nodes-passed = ap length pass-nodes ∙ length-negated
       ∙ sym (ap length nodes_are ∙ length-map (prefix tree) shape_of)
 
   module _ (found : List Bool) (asks : List ℕ) (asks_are : asks ≡ places 0 tree)
       (is : found ≡ pass (map shape nodes) (false ∷ [])) where
-    pub places-passed : AllByRecursion (λ place. place < length found) asks
+    places-passed : AllByRecursion (λ place. place < length found) asks
     places-passed = rw (asks_are, is, pass-nodes, length-negated) (places-inside tree)
 
-    pub polar-kept : (answers : List (Option Bool)) (fill : Bool)
+    polar-kept : (answers : List (Option Bool)) (fill : Bool)
         → filled_at found asks answers fill ≡ polar tree answers fill
     polar-kept answers fill =
         let parities = polarities false tree in
@@ -111,6 +112,24 @@ module _ (nodes : List ExprNode) (tree : Tree Question)
         rw (is, pass-nodes, places_are, read-mapped parities negated_in false, map-id)
         (ap (filled_by answers) (sym (AllZip-map (turned fill) (asked parities) _
         (asked-alike (Turned fill) parities _ (turned-alike fill false tree)))))
+
+-- The same of the nodes of a text's one tree, and of the places of its predicates.
+
+module _ {text : List ℕ} (nodes : List ExprNode)
+    (kept : (one : HasOneTree text) × (map (node_at text) nodes ≡ prefix one.tree)) where
+  pub text-passed : IsPassed (map shape nodes) (false ∷ [])
+  text-passed = nodes-passed nodes kept.0.tree (shapes-kept nodes kept kept.0)
+
+  module _ {ps : List ℕ} (found : (one : HasOneTree text) × (ps ≡ places 0 one.tree))
+      {negated : List Bool} (is : negated ≡ pass (map shape nodes) (false ∷ [])) where
+    pub text-negated : AllByRecursion (λ place. place < length negated) ps
+    text-negated = places-passed nodes found.0.tree (shapes-kept nodes kept found.0) negated ps
+        found.1 is
+
+    pub text-filled : (one : HasOneTree text) (answers : List (Option Bool)) (fill : Bool)
+        → filled_at negated ps answers fill ≡ polar one.tree answers fill
+    text-filled one = polar-kept nodes one.tree (shapes-kept nodes kept one) negated ps
+        (found.1 ∙ ap (places 0) (only_tree one found.0.tree found.0.reads.has)) is
 
 -- a decision is right if the value is unknown and it holds the polar fillings
 pub IsDecision-unknown : {X A : Type 0} (tree : Tree X) (answers : List (Option Bool))

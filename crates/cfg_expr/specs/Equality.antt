@@ -5,7 +5,6 @@ use Rattle.std.specs.declared.cmp.Ordering.{Ordering}
 use Rattle.std.specs.Cmp.Lexicographic.{pointwise, slice_cmp}
 use Rattle.cfgx_grammar.specs.Question.{Question, TargetQuestion}
 use Rattle.cfgx_parser.specs.Asked.{asked_number, key_of, kind_number, value_of, without_texts}
-use Rattle.cfgx_parser.specs.declared.asked.Asked.{Asked}
 use Rattle.cfg_expr.specs.declared.expr.asked_texts.AskedTexts.{AskedTexts}
 
 abbrev pub Code : Type 0
@@ -16,23 +15,20 @@ abbrev pub number_code : Option ℕ → List ℕ
 number_code None = []
 number_code (Some number) = number ∷ []
 
--- the number of the kind, and the number of what is asked, if there is one
-abbrev pub asked_code : Asked → List ℕ
-asked_code one = kind_number one ∷ number_code (asked_number one)
-
--- these numbers, the lengths of the key and of the value, the key, and the value
-abbrev pub code_with : Asked → List ℕ → List ℕ → Code
-code_with one key value =
-    asked_code one ∷ (length key ∷ length value ∷ []) ∷ key ∷ value ∷ []
+-- the number of the kind and the number that is asked for, if there is one, then the lengths of the
+-- key and of the value, and then the key and the value
+abbrev pub code_with : ℕ → Option ℕ → List ℕ → List ℕ → Code
+code_with kind number key value =
+    (kind ∷ number_code number) ∷ (length key ∷ length value ∷ []) ∷ key ∷ value ∷ []
 
 -- the code of what a predicate asks with its texts
 abbrev pub texts_code : AskedTexts → Code
-texts_code texts = code_with texts.asked texts.key.now texts.value.now
+texts_code texts = code_with texts.kind texts.number texts.key.now texts.value.now
 
 -- the code of a question
 abbrev pub question_code : Question → Code
-question_code question =
-    code_with (without_texts question) (key_of question) (value_of question)
+question_code question = let asked = without_texts question in
+    code_with (kind_number asked) (asked_number asked) (key_of question) (value_of question)
 
 abbrev pub target_code : TargetQuestion → Code
 target_code question = question_code (Question.target question)

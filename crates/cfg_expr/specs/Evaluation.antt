@@ -1,5 +1,6 @@
 -- What the predicates of a condition are, and what its evaluation promises.
-use Rattle.std.specs.Prelude.{◌≡◌, ◌≤◌, ℕ, List, Result, IfOk, IsOk, OnErr, length, map}
+use Rattle.std.specs.Prelude.{◌≡◌, ◌≤◌, ℕ, List, Option, Result, IfOk, IsOk, OnErr, length, map}
+use Rattle.std.specs.Iterator.{AlwaysYields}
 use Rattle.std.specs.List.{AllByRecursion}
 use Rattle.cfgx_syntax.specs.Kleene.{EachLane, IsDisjoint, Planes, lane}
 use Rattle.cfgx_grammar.specs.Question.{Question}
@@ -7,6 +8,7 @@ use Rattle.cfgx_grammar.specs.Tree.{Tree, asked}
 use Rattle.cfgx_grammar.specs.Grammar.{HasTree}
 use Rattle.cfgx_grammar.specs.Answer.{HasOneTree}
 use Rattle.cfg_expr.specs.Filling.{three_valued}
+use Rattle.cfg_expr.specs.Given.{AreAnswersTo}
 use Rattle.cfg_expr.specs.Fold.{Operations, tree_fold}
 use Rattle.cfg_expr.specs.Homomorphism.{IsByLane, lane_valued}
 use Rattle.cfgx_grammar.specs.WellFormed.{IsWellFormed}
@@ -48,6 +50,18 @@ pub record EvaluatesTo {F T E : Type 0} (logic : Operations T) (closure : Closur
   pub refused : OnErr result (after ≡ before)
   -- for a text of at most 32 bytes there is no error
   pub short : length text ≤ 32 → IsOk result
+
+-- an iterator with these steps gives answers to the text's predicates from this state on
+abbrev pub GivesAnswersTo : {I T : Type 0} → (I → Option T → I → Type 0) → I → List ℕ → Type 0
+GivesAnswersTo {T = T} steps state text = (given : List T)
+    × AlwaysYields steps (λ x. x) state given × AreAnswersTo given text
+
+-- the value of the text's one tree over the answers that the iterator gives
+abbrev pub IsValueOver : {I T : Type 0} → Operations T → (I → Option T → I → Type 0) → I → List ℕ
+    → T → Type 0
+IsValueOver {T = T} logic steps state text value = (given : List T)
+    → AlwaysYields steps (λ x. x) state given → AreAnswersTo given text
+    → (one : HasOneTree text) × (value ≡ tree_fold logic one.tree given)
 
 -- the value of the text's one tree over the answers, in all lanes at once and in each by itself
 abbrev pub IsValueInLanes : List ℕ → List Planes → Planes → Type 0

@@ -41,6 +41,18 @@ abbrev mutual
 abbrev pub values_of : {T : Type 0} → Operations T → Trees T → List T
 values_of logic trees = values_by logic (λ _. true) trees
 
+abbrev mutual
+  -- the tree with `f` of each leaf
+  pub tree_map : {X Y : Type 0} → (X → Y) → Tree X → Tree Y
+  tree_map f (Tree.leaf x) = Tree.leaf (f x)
+  tree_map f (Tree.literal truth) = Tree.literal truth
+  tree_map f (Tree.list function trees) = Tree.list function (trees_map f trees)
+  tree_map f (Tree.not tree) = Tree.not (tree_map f tree)
+
+  pub trees_map : {X Y : Type 0} → (X → Y) → Trees X → Trees Y
+  trees_map f Trees.none = Trees.none
+  trees_map f (Trees.more tree trees) = Trees.more (tree_map f tree) (trees_map f trees)
+
 -- the first of the answers, or `otherwise` if there is none
 abbrev pub first_or : {T : Type 0} → T → List T → T
 first_or otherwise [] = otherwise

@@ -5,6 +5,7 @@ use Rattle.cfgx_syntax.specs.Spans.{LiesIn}
 use Rattle.cfgx_grammar.specs.Answer.{HasOneTree}
 use Rattle.cfgx_grammar.specs.Question.{Question}
 use Rattle.cfgx_grammar.specs.Tree.{Tree, Trees, asked}
+use Rattle.cfg_expr.specs.Fold.{tree_map}
 use Rattle.cfgx_parser.specs.Located.{HasCut, question_at, whole_span}
 use Rattle.cfgx_parser.specs.ReadFrom.{AreRead}
 use Rattle.cfgx_parser.specs.declared.located.LocatedPredicate.{LocatedPredicate}
@@ -15,18 +16,6 @@ pub record Locates (text : List ℕ) (question : Question) (predicate : LocatedP
     pub cut : HasCut text predicate
     pub asks : question_at text predicate ≡ question
     pub lies : LiesIn text (whole_span predicate).start (whole_span predicate).end
-
-abbrev mutual
-  -- the tree with `f` of each leaf
-  pub tree_map : {X Y : Type 0} → (X → Y) → Tree X → Tree Y
-  tree_map f (Tree.leaf x) = Tree.leaf (f x)
-  tree_map f (Tree.literal truth) = Tree.literal truth
-  tree_map f (Tree.list function trees) = Tree.list function (trees_map f trees)
-  tree_map f (Tree.not tree) = Tree.not (tree_map f tree)
-
-  pub trees_map : {X Y : Type 0} → (X → Y) → Trees X → Trees Y
-  trees_map f Trees.none = Trees.none
-  trees_map f (Trees.more tree trees) = Trees.more (tree_map f tree) (trees_map f trees)
 
 abbrev mutual
   -- the predicates of a tree in the order of the text

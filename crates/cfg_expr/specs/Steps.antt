@@ -5,9 +5,10 @@ use Rattle.std.specs.Prelude.{get_or, length, map, nat_eq, true}
 use Rattle.std.specs.{Cmp.Lexicographic.pointwise, Ordering.on}
 use Rattle.std.specs.List.{AllByRecursion, range_with_len}
 use Rattle.cfgx_grammar.specs.Answer.{HasOneTree}
-use Rattle.cfgx_grammar.specs.Tree.{ListFunction, Tree, Trees, asked, count}
+use Rattle.cfgx_grammar.specs.Tree.{Tree, Trees, asked, count}
+use Rattle.cfgx_parser.specs.nodes.Prefix.{list_func}
 use Rattle.cfgx_parser.specs.declared.function.Func.TheVariants.{Not, All, Any}
-use Rattle.cfg_expr.specs.Fold.{Operations, answered, tree_value}
+use Rattle.cfg_expr.specs.Fold.{Operations, answered, tree_map, tree_value}
 use Rattle.cfg_expr.specs.declared.expr.steps.Step.{Step}
 use Rattle.cfg_expr.specs.declared.expr.steps.Step.TheVariants.{Ask, Literal, Function}
 use Rattle.cfg_expr.specs.declared.expr.steps.StepsError.{StepsError}
@@ -26,18 +27,13 @@ step_code (Function (Any n)) = 5 ∷ n ∷ []
 abbrev pub step_eq : Step → Step → Bool
 step_eq = on step_code (pointwise nat_eq)
 
--- the step of `all` or `any` with `n` members
-abbrev pub list_step : ListFunction → ℕ → Step
-list_step ListFunction.all n = Function (All n)
-list_step ListFunction.any n = Function (Any n)
-
 -- the steps of a tree of numbers, as its nodes stand in the text: the step of a function, and then
 -- those of its members
 abbrev mutual
   pub steps : Tree ℕ → List Step
   steps (Tree.leaf number) = Ask number ∷ []
   steps (Tree.literal truth) = Literal truth ∷ []
-  steps (Tree.list function trees) = list_step function (count trees) ∷ steps_each trees
+  steps (Tree.list function trees) = Function (list_func function (count trees)) ∷ steps_each trees
   steps (Tree.not tree) = Function Not ∷ steps tree
 
   pub steps_each : Trees ℕ → List Step
@@ -74,18 +70,6 @@ is_ask (Function func) = false
 abbrev pub AreCounted : {T : Type 0} → List Step → List T → Type 0
 AreCounted all answers = length answers ≡ count_by is_ask all
 
--- the tree with `f` of each leaf
-abbrev mutual
-  pub mapped : {X Y : Type 0} → (X → Y) → Tree X → Tree Y
-  mapped f (Tree.leaf x) = Tree.leaf (f x)
-  mapped f (Tree.literal truth) = Tree.literal truth
-  mapped f (Tree.list function trees) = Tree.list function (mapped_each f trees)
-  mapped f (Tree.not tree) = Tree.not (mapped f tree)
-
-  pub mapped_each : {X Y : Type 0} → (X → Y) → Trees X → Trees Y
-  mapped_each f Trees.none = Trees.none
-  mapped_each f (Trees.more tree trees) = Trees.more (mapped f tree) (mapped_each f trees)
-
 module _ {T : Type 0} (logic : Operations T) where
   -- the answer that has this number, counted from 0
   abbrev pub answer_at : List T → ℕ → T
@@ -97,7 +81,7 @@ module _ {T : Type 0} (logic : Operations T) where
     pub tree : Tree ℕ
     pub are : all ≡ steps tree
     pub inside : AllByRecursion (λ number. number < length answers) (asked tree)
-    pub value_is : value ≡ tree_value logic (mapped (answer_at answers) tree)
+    pub value_is : value ≡ tree_value logic (tree_map (answer_at answers) tree)
 
   -- why steps have no value over answers
   abbrev pub Fail : List Step → List T → StepsError → Type 0

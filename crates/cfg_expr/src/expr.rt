@@ -30,7 +30,7 @@ use cfgx_parser::parser::Parser;
 use cfgx_syntax::lexer::Lexer;
 use cfgx_syntax::logic::Kleene64;
 pub use cfgx_syntax::logic::Logic;
-pub use cfgx_syntax::{lexer, logic};
+pub use cfgx_syntax::{lexer, logic, stripping};
 pub use condition::{Condition, ConditionReader};
 pub use located::LocatedPredicates;
 pub use matcher::TargetMatcher;
@@ -148,6 +148,7 @@ impl<A: SmallAllocator> Expression<A> {
         let lexer = Lexer::new(alloc, text);
         let original = lexer.original();
         let mut parser = Parser::new(alloc, original.len());
+        // The failure of a faulty text holds a copy of the text, which is what `alloc` is for.
         parser.read_all(alloc, lexer)?;
         let original = String::from_str(alloc, original)?;
         let (nodes, places) = parser.into_parts();
@@ -272,8 +273,10 @@ impl<A: SmallAllocator> Expression<A> {
         self.condition().eval_lanes(alloc, answers)
     }
 
-    /// Compiles the condition to steps. Read from the last to the first with a stack, by
-    /// `eval_steps` or by a loop in any language, they give what `eval` gives.
+    /// Compiles the condition to steps. Read from the last to the first with a stack, they give what
+    /// `eval` gives. `eval_steps` reads them so, and callers may write this loop in other languages.
+    /// It may join the members of a function in any order if `and` and `or` are commutative and
+    /// associative. For any other logic it has to keep the order of `eval`.
     ///
     /// A predicate, a literal and a function are one step each, as they stand in the text: the step
     /// of a function comes before those of its members. A step that asks has the number of its

@@ -1,4 +1,4 @@
-/* The example of README.md. The answers are in the order of cfgx_predicates. */
+/* The example of docs/README.md. The answers are in the order of cfgx_predicates. */
 #include "cfgx.h"
 
 #include <assert.h>

@@ -91,7 +91,7 @@ module _ (buffer key value : List ℕ) (all : List NamedPredicate) (named : Name
     (value_len : named.value_len ≡ length value)
     (inside : All (IsInside (length buffer)) all) where
   pub codes_at-push : map (code_at ((buffer ++ key) ++ value)) (all ++ named ∷ [])
-      ≡ map (code_at buffer) all ++ code_with named.asked key value ∷ []
+      ≡ map (code_at buffer) all ++ code_with named.kind named.number key value ∷ []
   codes_at-push =
       let same = codes_at-append buffer (key ++ value) all (recursion_from_All _ all inside) in
       rw (

@@ -62,30 +62,22 @@ list_name-opens : (function : ListFunction) → is_comma_or_open (list_name func
 list_name-opens ListFunction.all = refl
 list_name-opens ListFunction.any = refl
 
--- the commas behind a member
+-- what is counted of a member and the commas behind it, if a comma counts for one
+behind-counts : (count : List Token → ℕ)
+    → ((these those : List Token) → count (these ++ those) ≡ count these + count those)
+    → ((n : ℕ) → count (commas n) ≡ n) → (tokens member : List Token) (n : ℕ) (rest : List Token)
+    → tokens ≡ member ++ (commas n ++ rest) → count tokens ≡ count member + n + count rest
+behind-counts count adds counts tokens member n rest is =
+    rw is (omega (arith, adds member (commas n ++ rest), adds (commas n) rest, counts n))
+
 behind-opens : (tokens member : List Token) (n : ℕ) (rest : List Token)
     → tokens ≡ member ++ (commas n ++ rest)
     → commas_and_opens tokens ≡ commas_and_opens member + n + commas_and_opens rest
-behind-opens tokens member n rest is = rw is (
-    omega (
-      arith,
-      opens-append member (commas n ++ rest),
-      opens-append (commas n) rest,
-      opens-commas n,
-    )
-    )
+behind-opens = behind-counts commas_and_opens opens-append opens-commas
 
 behind-length : (tokens member : List Token) (n : ℕ) (rest : List Token)
-    → tokens ≡ member ++ (commas n ++ rest)
-    → length tokens ≡ length member + n + length rest
-behind-length tokens member n rest is = rw is (
-    omega (
-      arith,
-      length-append member (commas n ++ rest),
-      length-append (commas n) rest,
-      length-replicate n Token.comma,
-    )
-    )
+    → tokens ≡ member ++ (commas n ++ rest) → length tokens ≡ length member + n + length rest
+behind-length = behind-counts length length-append (λ n. length-replicate n Token.comma)
 
 -- Each node has a token that is neither.
 

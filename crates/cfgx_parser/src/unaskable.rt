@@ -1,4 +1,4 @@
-//! Whether a text is a key, or a key with a value, that no condition can ask.
+//! Whether a text is a key, or a key with a value, of which the key is at fault.
 ghost use Rattle.std.specs.Prelude.{◌≡◌, ◌↔◌, IfOk, IsTrue, map, option_map};
 ghost use Rattle.cfgx_syntax.specs.Lexer.{token_of};
 ghost use Rattle.cfgx_syntax.specs.Stripping.{strip};
@@ -15,7 +15,8 @@ use cfgx_syntax::memory::SmallAllocator;
 use std::alloc::AllocError;
 
 /// Whether `text`, without an outer `cfg( )`, is a key that is at fault, or such a key, `=` and a
-/// value.
+/// value. Other texts that no condition can ask are not meant: a key whose value is at fault, or
+/// what is no key, such as a text with a lexical fault.
 ///
 /// # Errors
 ///

@@ -15,7 +15,7 @@ mod bytes;
 pub mod laws;
 
 use crate::error::{Failure, Reason, terms};
-use crate::stripping::strip;
+use crate::stripping::{Stripped, strip};
 use bytes::{Class, Run, first_class, quote_in};
 use std::alloc::{Allocator, Global};
 use std::fmt;
@@ -226,16 +226,23 @@ impl<'a, A: Allocator> Model for Lexer<'a, A> {
 }
 
 impl<'a, A: Allocator> Lexer<'a, A> {
-    /// Returns a lexer of the stripped `text`. It allocates nothing.
-    #[tactic(auto, using(crate::proofs::Finding::one_list))]
+    /// Returns a lexer of `text` without its outer `cfg( )`. It allocates nothing.
     pub fn new(alloc: A, text: &'a str) -> Self
         ensures starts { result ≡ starting (strip text.now) }
         ensures one { HasOneTokenList (strip text.now) }
     {
-        let original = strip(text).text;
+        Lexer::of_stripped(alloc, strip(text))
+    }
+
+    /// Returns a lexer of a text that is stripped already. It allocates nothing.
+    #[tactic(auto, using(crate::proofs::Finding::one_list))]
+    pub fn of_stripped(alloc: A, stripped: Stripped<'a>) -> Self
+        ensures starts { result ≡ starting stripped.entry.text.now }
+        ensures one { HasOneTokenList stripped.entry.text.now }
+    {
         Lexer {
-            original,
-            inner: original,
+            original: stripped.text,
+            inner: stripped.text,
             alloc: Some(alloc),
         }
     }

@@ -1,25 +1,38 @@
 """The command `cfgx-deps`."""
 import argparse
+import dataclasses
 import errno
 import gc
 import io
 import os
 import shutil
 import sys
-from typing import Dict, Iterable, Iterator, List, NoReturn, Optional, Sequence, TextIO
+from typing import (
+    Any, Dict, Iterable, Iterator, List, NoReturn, Optional, Sequence, TextIO, Union,
+)
 
-from . import __version__, _process
+from . import __version__, _known, _process
 from ._arguments import parser_of
-from .manifest import ManifestError, Report, RequestError, Value, report
-from .manifest import _flags, _formats, _platforms, _table
+from ._known import Known, KnownError
+from ._terminal import Progress, has_colours, is_terminal, shown
+from .manifest import (
+    Features, ManifestError, Report, RequestError, Resolved, Row, Used, report, resolved,
+)
+from .manifest import (
+    _findings, _flags, _formats, _platforms, _resolved_formats, _schema, _table,
+)
 from .manifest._cargo import KINDS
-from .manifest._errors import shown
+from .manifest._findings import TOLD
+from .manifest._names import CHOICES, CONDITIONAL, DIFFERING, FINDINGS, NEVER, UNKNOWN
 from .manifest._once import Once
+from .manifest._report import differ, has_unknown
 
+NAME = "cfgx-deps"
 FOUND, MISUSED, FAILED, INTERRUPTED = 1, 2, 3, 130
 # How many characters are printed at once.
 PIECE = 1 << 20
-UNKNOWN, NEVER = "unknown", "never"
+# A report of either kind.
+Found = Union[Report, Resolved]
 
 
 class Parser(argparse.ArgumentParser):
@@ -35,14 +48,11 @@ class OutputError(Exception):
     """The output does not take what is printed. The message says why."""
 
 
-def parser() -> Parser:
-    """Returns the parser of the arguments."""
-    return parser_of(Parser)
-
-
-def divided(lists: Iterable[str]) -> List[str]:
-    """Returns the words of lists, which have commas between them."""
-    return [word for one in lists for word in one.split(",")]
+def parser(name: str = NAME) -> Parser:
+    """Returns the parser of the arguments, for a command that is called by a name."""
+    made = parser_of(Parser)
+    made.prog = name
+    return made
 
 
 def facts_of(paths: Iterable[str]) -> Dict[str, List[str]]:
@@ -56,28 +66,112 @@ def facts_of(paths: Iterable[str]) -> Dict[str, List[str]]:
     return facts
 
 
-def report_of(words: argparse.Namespace) -> Report:
+def report_of(words: argparse.Namespace) -> Found:
     """Returns the report that arguments ask for. Raises a `ManifestError`."""
-    rustflags = (_flags.rustflags_of(os.environ) or []) if words.rustflags else None
-    kinds = KINDS if words.kind is None else divided(words.kind)
-    return report(
-        words.manifest, words.target, packages=words.package, is_workspace=words.workspace,
-        kinds=kinds, facts=facts_of(words.facts), flags=words.cfg,
-        has_other_flags=not words.no_other_cfg, rustflags=rustflags, asks_rustc=words.rustc,
-        host=words.host, cargo_timeout=words.cargo_timeout,
+    progress = Progress(None if words.quiet else sys.stderr, "asked rustc of targets")
+    asked: Dict[str, Any] = {
+        "packages": words.package, "workspace": words.workspace, "exclude": words.exclude,
+        "kinds": words.kind or KINDS, "facts": facts_of(words.facts), "cfg": words.cfg,
+        "no_other_cfg": words.no_other_cfg, "rustc": words.rustc, "host": words.host,
+        "rustflags": (_flags.rustflags_of(os.environ) or []) if words.rustflags else None,
+        "cargo_timeout": words.cargo_timeout, "progress": progress,
+    }
+    manifest = words.manifest_path if words.manifest is None else words.manifest
+    try:
+        if words.resolved:
+            settings: Dict[str, Any] = {"features": features_of(words), "config": words.config}
+            return resolved(manifest, words.target, **settings, **asked)
+        return report(manifest, words.target, **asked)
+    finally:
+        progress.clear()
+
+
+def features_of(words: argparse.Namespace) -> Features:
+    """Returns the features that arguments ask for."""
+    return Features(
+        tuple(words.features), has_default=not words.no_default_features,
+        has_all=words.all_features,
     )
 
 
-def lines_of(found: Report, words: argparse.Namespace) -> Iterator[str]:
+def expect_fit(words: argparse.Namespace) -> None:
+    """Raises `RequestError` for a word that is none of an option, and for options that do not go
+    together."""
+    for option, given, known in (("--fail-on", words.fail_on, FINDINGS),
+                                 ("--only", words.only, CHOICES)):
+        wrong = [one for one in given if one not in known]
+        if wrong:
+            raise RequestError(f"{option} takes {' and '.join(known)}, and not {wrong[0]}")
+    if words.manifest is not None and words.manifest_path is not None:
+        raise RequestError("MANIFEST and --manifest-path name a manifest: give one")
+    if words.format == "sarif" and words.summary:
+        raise RequestError("--summary counts rows, and --format sarif lists what is found")
+    resolving = {
+        "--features": words.features, "--all-features": words.all_features,
+        "--no-default-features": words.no_default_features, "--config": words.config,
+    }
+    listing = {
+        "--known": words.known, "--format sarif": words.format == "sarif",
+        f"--only {CONDITIONAL}": CONDITIONAL in words.only,
+    }
+    for name, value in (listing if words.resolved else resolving).items():
+        if value and words.resolved:
+            raise RequestError(f"{name} is for dependencies, and --resolved lists packages")
+        if value:
+            raise RequestError(f"{name} needs --resolved: without it, each dependency is listed")
+
+
+def only(found: Found, wanted: Sequence[str]) -> Found:
+    """Returns a report with those of its rows that are wanted."""
+    if not wanted:
+        return found
+    is_differing, is_unknown = Once(differ), Once(has_unknown)
+
+    def is_wanted(row: Union[Row, Used]) -> bool:
+        return (
+            (CONDITIONAL in wanted and isinstance(row, Row) and row.is_conditional)
+            or (DIFFERING in wanted and is_differing(row.values))
+            or (UNKNOWN in wanted and is_unknown(row.values))
+        )
+
+    if isinstance(found, Resolved):
+        return dataclasses.replace(found, rows=tuple(filter(is_wanted, found.rows)))
+    return dataclasses.replace(found, rows=tuple(filter(is_wanted, found.rows)))
+
+
+def width_of(words: argparse.Namespace) -> Optional[int]:
+    """Returns how many columns a table may have, or `None` if it is not cut."""
+    is_cut = is_terminal(sys.stdout) and not words.wide
+    return shutil.get_terminal_size().columns if is_cut else None
+
+
+def lines_of(found: Found, words: argparse.Namespace, known: Known) -> Iterator[str]:
     """Returns the lines that are printed of a report."""
+    chosen = only(found, words.only)
+    left_out = len(found.rows) - len(chosen.rows)
+    if isinstance(chosen, Resolved):
+        return lines_of_resolved(chosen, words, left_out)
+    if words.format == "sarif":
+        return _findings.sarif_of(chosen, known, words.fail_on)
     if words.format == "json":
-        return _formats.json_of(found, words.summary)
+        return _formats.json_of(chosen, words.summary)
     if words.format == "tsv":
-        return _formats.tsv_of(found, words.summary)
-    is_terminal = sys.stdout is not None and sys.stdout.isatty()
-    width = shutil.get_terminal_size().columns if is_terminal and not words.wide else None
+        return _formats.tsv_of(chosen, words.summary)
     table = _table.summary_table_of if words.summary else _table.table_of
-    return table(found, width)
+    return table(chosen, width_of(words), left_out, has_colours(sys.stdout, os.environ))
+
+
+def lines_of_resolved(
+    found: Resolved, words: argparse.Namespace, left_out: int
+) -> Iterator[str]:
+    """Returns the lines that are printed of a report on a lock file, which leaves out packages."""
+    if words.format == "json":
+        return _resolved_formats.json_of(found, words.summary)
+    if words.format == "tsv":
+        return _resolved_formats.tsv_of(found, words.summary)
+    return _resolved_formats.table_of(
+        found, width_of(words), words.summary, left_out, has_colours(sys.stdout, os.environ)
+    )
 
 
 def write(lines: Iterable[str]) -> None:
@@ -127,53 +221,65 @@ def complain(message: str, above: str = "") -> None:
     if sys.stderr is None:
         return
     try:
-        print(f"{above}cfgx-deps: {message}", file=sys.stderr, flush=True)
+        print(f"{above}{NAME}: {message}", file=sys.stderr, flush=True)
     except OSError:
         abandon(sys.stderr)
 
 
-def has_unknown(values: Sequence[Value]) -> bool:
-    """Whether a value is unknown."""
-    return Value.UNKNOWN in values
-
-
-def reasons_to_fail(found: Report, wanted: Sequence[str]) -> Iterator[str]:
+def reasons_to_fail(found: Found, wanted: Sequence[str], known: Known) -> Iterator[str]:
     """Yields a line for each row of a report for which the command is to fail."""
-    if not wanted:
+    if isinstance(found, Report):
+        # The file of known rows is asked of each row, also of those that nothing fails for.
+        findings = _findings.findings_in(found.rows, known)
+        yield from (str(one) for one in findings if one.name in wanted and one.known is None)
         return
     is_unknown = Once(has_unknown)
     for row in found.rows:
-        what = f"{_table.full_name_of(row)} {row.dependency.condition}"
+        what = f"{row.package.name} {row.package.version}"
         if UNKNOWN in wanted and is_unknown(row.values):
-            yield shown(f"unknown: {what}")
+            yield shown(f"{TOLD[UNKNOWN]}: {what}")
         if NEVER in wanted and row.is_never:
-            yield shown(f"never true: {what}")
+            yield shown(f"{TOLD[NEVER]}: {what}")
+
+
+def text_of(words: argparse.Namespace) -> Optional[str]:
+    """Returns the text that arguments ask for in place of a report, if they do."""
+    if words.help:
+        return parser(words.name).format_help().rstrip()
+    if words.version:
+        return f"{NAME} {__version__}"
+    return _schema.text().rstrip() if words.schema else None
 
 
 def run(words: argparse.Namespace) -> int:
     """Prints what the arguments ask for, and returns the status."""
-    if words.help or words.version:
-        write([parser().format_help().rstrip() if words.help else f"cfgx-deps {__version__}"])
+    text = text_of(words)
+    if text is not None:
+        write([text])
         return 0
-    wanted = divided(words.fail_on)
-    wrong = [one for one in wanted if one not in (UNKNOWN, NEVER)]
-    if wrong:
-        raise RequestError(f"--fail-on takes unknown and never, and not {wrong[0]}")
+    expect_fit(words)
+    known = Known() if words.known is None else _known.read(words.known, _findings.FORM)
     found = report_of(words)
-    for note in found.notes:
+    is_judged = words.fail_on or words.known is not None
+    reasons = list(reasons_to_fail(found, words.fail_on, known)) if is_judged else []
+    notes = [*found.notes, *(f"{words.known}: {one} matches nothing" for one in known.unmatched())]
+    for note in [] if words.quiet else notes:
         complain(f"note: {shown(note)}")
-    write(lines_of(found, words))
-    reasons = list(reasons_to_fail(found, wanted))
+    write(lines_of(found, words, known))
     for reason in reasons:
         complain(reason)
     if not found.is_tried:
-        complain("not all answers to flags were tried out: the budget of a report is spent")
+        what = "answers to flags"
+        what += " and ways to packages" if isinstance(found, Resolved) else ""
+        complain(f"not all {what} were tried out: the budget of a report is spent")
     return FOUND if reasons else 0 if found.is_tried else FAILED
 
 
-def main(arguments: Optional[Sequence[str]] = None) -> int:
-    """Runs the command with the arguments of the process, and returns its status."""
-    words = parser().parse_intermixed_args(arguments)
+def main(arguments: Optional[Sequence[str]] = None, name: str = NAME) -> int:
+    """Runs the command, which was called by a name, with arguments, or with those of the process.
+    Returns its status."""
+    words = parser(name).parse_intermixed_args(arguments)
+    words.name = name
     # A report of a large manifest has a million objects and no cycles.
     gc.disable()
     try:
@@ -181,7 +287,7 @@ def main(arguments: Optional[Sequence[str]] = None) -> int:
     except RequestError as error:
         complain(str(error))
         return MISUSED
-    except ManifestError as error:
+    except (ManifestError, KnownError) as error:
         complain(str(error))
     except OutputError as error:
         complain(str(error))

@@ -8,7 +8,7 @@ import subprocess
 import sys
 import threading
 import time
-from typing import List, NamedTuple, Optional, Sequence
+from typing import List, Mapping, NamedTuple, Optional, Sequence
 
 # Programs start in this folder. In the current one, rustup takes a program from where the file
 # `rust-toolchain.toml` says, and Cargo reads a configuration.
@@ -63,15 +63,17 @@ def path_to(program: str) -> str:
     raise FileNotFoundError(errno.ENOENT, os.strerror(errno.ENOENT), program)
 
 
-def run(words: Sequence[str], limits: Limits = Limits()) -> Ended:
-    """Runs a program with its arguments, in the folder `START` and without an input. Whatever it
-    started in its group of processes, or on Windows by itself, ends with it if it exceeds a limit.
-    Raises `OSError` if it does not start, `ValueError` for a zero byte in a word, and
-    `LimitError`."""
+def run(
+    words: Sequence[str], limits: Limits = Limits(), variables: Optional[Mapping[str, str]] = None
+) -> Ended:
+    """Runs a program with its arguments, in the folder `START` and without an input. `variables`
+    are set in its environment, beside those of this process. Whatever it started in its group of
+    processes, or on Windows by itself, ends with it if it exceeds a limit. Raises `OSError` if it
+    does not start, `ValueError` for a zero byte in a word, and `LimitError`."""
     pipe = subprocess.PIPE
     with subprocess.Popen(
         [path_to(words[0]), *words[1:]], cwd=START, stdin=subprocess.DEVNULL, stdout=pipe,
-        stderr=pipe, start_new_session=True,
+        stderr=pipe, start_new_session=True, env={**os.environ, **(variables or {})},
     ) as process:
         try:
             limit_memory(process.pid, limits.memory)
@@ -131,6 +133,15 @@ def ended(process: "subprocess.Popen[bytes]", limits: Limits) -> Ended:
     status = waited_for(process, end, limits)
     stdout, stderr = (b"".join(printed.pieces) for printed in both)
     return Ended(status, stdout, stderr)
+
+
+def processors() -> int:
+    """Returns how many processors this process may use."""
+    try:
+        return len(os.sched_getaffinity(0))
+    except (AttributeError, OSError):
+        # Another system has no such call.
+        return os.cpu_count() or 1
 
 
 class Printed(threading.Thread):

@@ -13,10 +13,11 @@ use Rattle.std.proofs.lemmas.List.{length-replicate, length-set, map-append}
 use Rattle.std.specs.List.{AllByRecursion}
 use Rattle.cfgx_grammar.specs.Tree.{Tree, Trees, is_function, is_leaf, asked}
 use Rattle.cfg_expr.specs.Fold.{Operations, answered, tree_fold}
+use Rattle.cfg_expr.specs.Given.{AreAnswersTo}
 use Rattle.cfg_expr.proofs.SameShapes.{answered-shape}
 use Rattle.cfg_expr.proofs.Dealing.{asked-answered}
 use Rattle.cfgx_grammar.proofs.ListLemmas.{all_of_first, all_of_second}
-use Rattle.cfgx_parser.proofs.Places.{read-places}
+use Rattle.cfgx_parser.proofs.Places.{length-places, read-places}
 use Rattle.cfgx_parser.specs.nodes.Prefix.{Node, node_at, prefix, prefix_each, places, places_by}
 use Rattle.cfgx_parser.specs.{nodes.Shape.{shape, shape_of}, declared.nodes.ExprNode.ExprNode}
 use Rattle.cfgx_parser.specs.declared.function.Func.{Func}
@@ -148,6 +149,19 @@ places-inside tree =
     inside-each count (places 0 tree) (asked tree)
     (read-places tree (λ place. ltb place count) (λ _. true)
     (λ place x stands. lt-ltb place count (slice_get_within (prefix tree) place _ stands)))
+
+-- there are as many answers as the tree asks predicates
+pub answers-many : {T : Type 0} {text : List ℕ} (one : HasOneTree text) (answers : List T)
+    → AreAnswersTo answers text → length answers ≡ length (asked one.tree)
+answers-many one answers given =
+    given.2 ∙ ap (λ tree. length (asked tree)) (only_tree one given.0 given.1)
+
+-- and as places
+pub answers-places : {T : Type 0} {text ps : List ℕ}
+    (found : (one : HasOneTree text) × (ps ≡ places 0 one.tree)) (answers : List T)
+    → AreAnswersTo answers text → length ps ≡ length answers
+answers-places found answers given = ap length found.1 ∙ length-places found.0.tree
+    ∙ sym (answers-many found.0 answers given)
 
 module _ {text : List ℕ} (nodes : List ExprNode) {ps : List ℕ}
     (kept : (one : HasOneTree text) × (map (node_at text) nodes ≡ prefix one.tree))

@@ -3,7 +3,6 @@ use Rattle.std.proofs.Common.{◌≡◌, ◌+◌, ◌≤◌, ◌<◌, ◌++◌, 
 use Rattle.std.proofs.Common.{take, drop, get_or, sym, refl, ap, ◌∙◌, arith, append_assoc, Some}
 use Rattle.std.proofs.Common.{None, length-append, option_and_then}
 use Rattle.std.proofs.lemmas.Bool.{le-leb}
-use Rattle.std.proofs.Math.Seq.{drop-length}
 use Rattle.std.proofs.lemmas.List.{append-nil, drop_all, drop_at, drop_more, get_or-map}
 use Rattle.std.proofs.lemmas.List.{get_or-take, length-map, map-append, take-take, take_at}
 use Rattle.std.proofs.lemmas.Simd.{get_or-zip2, length-zip2, zip2_of_maps}
@@ -22,13 +21,12 @@ use Rattle.cfg_expr.specs.nodes.Reading.{read, slot_of, slot_value, value_alone}
 use Rattle.cfg_expr.specs.declared.expr.evaluating.Slot.TheVariants as slot
 use Rattle.cfg_expr.specs.declared.expr.evaluating.Stack.{Stack}
 
--- Reading stands before the node at the place: the stack, and the slots in front of it.
-pub record Reading {T : Type 0} (logic : Operations T) (nodes : List ExprNode)
-    (old : List (Slot T)) (place : ℕ) (stack : Stack T) : Type 0 where
+-- Reading stands before the item at the place, and the stack has what those behind it leave.
+pub record Reading {T : Type 0} (logic : Operations T) (all : List (Item T)) (place : ℕ)
+    (stack : Stack T) : Type 0 where
   pub below : place ≤ stack.begin
   pub within : stack.begin ≤ length stack.slots.now
-  pub are : read logic (drop place (items logic nodes old)) ≡ Some (entries stack)
-  pub front : take place stack.slots.now ≡ take place old
+  pub are : read logic (drop place all) ≡ Some (entries stack)
 
 module _ {T : Type 0} (logic : Operations T) where
   -- a tree on the stack, and trees, the first one on top
@@ -132,74 +130,71 @@ module _ {T : Type 0} (logic : Operations T) where
       rw are (items-value tree)
 
   -- where reading stops at an item, it stops in front of it too
-  pub read-stops : (place : ℕ) (all : List (Item T)) → read logic (drop place all) ≡ None
+  read-stops : (place : ℕ) (all : List (Item T)) → read logic (drop place all) ≡ None
       → read logic all ≡ None
   read-stops zero all stops = stops
   read-stops (suc place) [] stops = stops
   read-stops (suc place) (first ∷ others) stops = rw (read-stops place others stops) refl
 
-  length-items : (nodes : List ExprNode) (slots : List (Slot T)) → length slots ≡ length nodes
+  -- before the last item nothing is read
+  pub Reading-begins : (all : List (Item T)) (place : ℕ) (stack : Stack T) → length all ≡ place
+      → length stack.slots.now ≡ place → stack.begin ≡ place → Reading logic all place stack
+  Reading-begins all place stack many same is = record {
+    below = omega (arith, is);
+    within = omega (arith, is, same);
+    are = rw (
+      drop_all place all (omega (arith, many)),
+      drop_all stack.begin stack.slots.now (omega (arith, is, same)),
+    ) refl;
+  }
+
+  -- the item at the place is read, which is in front of those from `from` on
+  module _ {all : List (Item T)} (place from : ℕ) {stack : Stack T} {here : Item T}
+      (at : drop place all ≡ here ∷ drop from all) (reading : Reading logic all from stack) where
+    pub Reading-next : (next : Stack T) → push_item logic here (entries stack) ≡ Some (entries next)
+        → place ≤ next.begin → next.begin ≤ length next.slots.now → Reading logic all place next
+    Reading-next next pushes below within =
+        record { below = below; within = within; are = rw (at, reading.are) pushes }
+
+    pub Reading-stops : push_item logic here (entries stack) ≡ None
+        → option_and_then value_alone (read logic all) ≡ None
+    Reading-stops stops =
+        let none : read logic (drop place all) ≡ None = rw (at, reading.are) stops in
+        rw (read-stops place all none) refl
+
+  pub length-items : (nodes : List ExprNode) (slots : List (Slot T)) → length slots ≡ length nodes
       → length (items logic nodes slots) ≡ length nodes
   length-items nodes slots many = let shapes = length-map nodes shape in
       length-zip2 (item logic) (map shape nodes) slots (omega (arith, many, shapes)) ∙ shapes
 
-  -- before the last node nothing is read
-  pub Reading-begins : (nodes : List ExprNode) (old : List (Slot T)) (stack : Stack T)
-      → length old ≡ length nodes → stack.slots.now ≡ old → stack.begin ≡ length old
-      → Reading logic nodes old (length nodes) stack
-  Reading-begins nodes old stack many same is = record {
-    below = omega (arith, is, many);
-    within = omega (arith, is, ap length same);
-    are = rw (
-      is,
-      same,
-      drop-length old,
-      drop_all (length nodes) (items logic nodes old) (omega (arith, length-items nodes old many)),
-    ) refl;
-    front = rw same refl;
-  }
+  -- the item of the node at the place, whose slot is as it was
+  pub node-at : (nodes : List ExprNode) (old now : List (Slot T)) (place from : ℕ)
+      (otherwise : ExprNode) → from ≡ place + 1 → place < length nodes → length old ≡ length nodes
+      → take from now ≡ take from old → drop place (items logic nodes old)
+      ≡ item logic (shape (get_or nodes place otherwise)) (get_or now place slot.Empty)
+      ∷ drop from (items logic nodes old)
+  node-at nodes old now place from otherwise next_is inside many front =
+      let shapes = length-map nodes shape in
+      let one = get_or nodes place otherwise in
+      let same : get_or now place slot.Empty ≡ get_or old place slot.Empty =
+      sym (get_or-take from now place slot.Empty (omega (arith, next_is)))
+      ∙ ap (λ l. get_or l place slot.Empty) front
+      ∙ get_or-take from old place slot.Empty (omega (arith, next_is)) in
+      let here = item logic (shape one) (get_or now place slot.Empty) in
+      rw next_is (drop_more (items logic nodes old) place here
+      (omega (arith, inside, length-items nodes old many))
+      ∙ ap (λ first. first ∷ drop (place + 1) (items logic nodes old))
+      (get_or-zip2 (item logic) (map shape nodes) old place (shape one) slot.Empty here
+      (omega (arith, inside, shapes)) (omega (arith, inside, many))
+      ∙ rw (get_or-map shape nodes place otherwise (shape one) inside, same) refl))
 
-  module _ {nodes : List ExprNode} {old : List (Slot T)} {place : ℕ} {stack : Stack T}
-      (otherwise : ExprNode) (many : length old ≡ length nodes) (inside : place < length nodes)
-      (reading : Reading logic nodes old (place + 1) stack) where
-    -- what is read at the place
-    abbrev here : Item T
-    here = item logic (shape (get_or nodes place otherwise))
-        (get_or stack.slots.now place slot.Empty)
-
-    at : drop place (items logic nodes old) ≡ here ∷ drop (place + 1) (items logic nodes old)
-    at = let shapes = length-map nodes shape in
-        let one : get_or stack.slots.now place slot.Empty ≡ get_or old place slot.Empty =
-        sym (get_or-take (place + 1) stack.slots.now place slot.Empty (omega arith))
-        ∙ ap (λ l. get_or l place slot.Empty) reading.front
-        ∙ get_or-take (place + 1) old place slot.Empty (omega arith) in
-        drop_more (items logic nodes old) place here
-        (omega (arith, inside, length-items nodes old many))
-        ∙ ap (λ first. first ∷ drop (place + 1) (items logic nodes old))
-        (get_or-zip2 (item logic) (map shape nodes) old place
-        (shape (get_or nodes place otherwise)) slot.Empty here
-        (omega (arith, inside, shapes)) (omega (arith, inside, many))
-        ∙ rw (
-          get_or-map shape nodes place otherwise (shape (get_or nodes place otherwise)) inside,
-          one,
-        ) refl)
-
-    pub Reading-next : (next : Stack T) → push_item logic here (entries stack) ≡ Some (entries next)
-        → take place next.slots.now ≡ take place stack.slots.now
-        → (place ≤ next.begin) × (next.begin ≤ length next.slots.now)
-        → Reading logic nodes old place next
-    Reading-next next pushes front within = record {
-      below = within.0;
-      within = within.1;
-      are = rw (at, reading.are) pushes;
-      front = front ∙ sym (take-take place (place + 1) stack.slots.now (omega arith))
-          ∙ ap (take place) reading.front ∙ take-take place (place + 1) old (omega arith);
-    }
-
-    pub Reading-stops : push_item logic here (entries stack) ≡ None
-        → nodes_value logic nodes old ≡ None
-    Reading-stops stops =
-        rw (read-stops place (items logic nodes old) (rw (at, reading.are) stops)) refl
+-- what is in front of the place stays, if what was in front of a later one was as it is
+pub fronts : {X : Type 0} (next now old : List X) (place from : ℕ) → place ≤ from
+    → take place next ≡ take place now → take from now ≡ take from old
+    → take place next ≡ take place old
+fronts next now old place from inside front before =
+    front ∙ sym (take-take place from now inside) ∙ ap (take place) before
+    ∙ take-take place from old inside
 
 -- a stack with none or several entries has no value alone
 pub not_alone : {T : Type 0} (stack : List (Slot T)) → (length stack ≡ 1 → ⊥)

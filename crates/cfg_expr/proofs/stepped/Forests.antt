@@ -12,8 +12,8 @@ use Rattle.cfgx_grammar.proofs.ListLemmas.{all_of_both}
 use Rattle.cfgx_parser.specs.Order.{func_members}
 use Rattle.cfgx_parser.specs.declared.function.Func.{Func}
 use Rattle.cfgx_parser.specs.declared.function.Func.TheVariants.{Not, All, Any}
-use Rattle.cfg_expr.specs.Fold.{Operations, literal_value, tree_value}
-use Rattle.cfg_expr.specs.Steps.{HasValue, answer_at, mapped, steps, steps_each}
+use Rattle.cfg_expr.specs.Fold.{Operations, literal_value, tree_map, tree_value}
+use Rattle.cfg_expr.specs.Steps.{HasValue, answer_at, steps, steps_each}
 use Rattle.cfg_expr.specs.declared.expr.steps.Step.{Step}
 use Rattle.cfg_expr.specs.declared.expr.steps.Step.TheVariants.{Ask, Literal, Function}
 use Rattle.cfg_expr.specs.nodes.Reading.{Item, Slot, answer_item, applied, apply, push_item, read}
@@ -209,7 +209,7 @@ module _ {T : Type 0} (logic : Operations T) (answers : List T) where
     one-tree (Trees.more tree Trees.none) many inside are =
         let alone : all ≡ steps tree = sym are ∙ append-nil (steps tree) in
         let found = steps_value-tree logic answers tree inside.0 in
-        let same : Some (tree_value logic (mapped (answer_at logic answers) tree)) ≡ Some value =
+        let same : Some (tree_value logic (tree_map (answer_at logic answers) tree)) ≡ Some value =
         sym found ∙ ap (λ l. steps_value logic l answers) (sym alone) ∙ is in
         record { tree = tree; are = alone; inside = inside.0; value_is = cc (same) }
 

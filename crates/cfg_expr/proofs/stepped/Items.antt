@@ -4,12 +4,11 @@ use Rattle.std.proofs.Common.{◌≡◌, ◌<◌, ◌++◌, ℕ, List, [], ◌�
 use Rattle.std.proofs.Common.{sym, ◌∙◌}
 use Rattle.std.proofs.lemmas.{List.map-append, Option.slice_get-get_or}
 use Rattle.std.specs.List.{AllByRecursion}
-use Rattle.cfgx_grammar.specs.Tree.{ListFunction, Tree, Trees, asked, asked_by, count, is_function}
-use Rattle.cfgx_grammar.specs.Tree.{is_leaf}
+use Rattle.cfgx_grammar.specs.Tree.{Tree, Trees, asked, asked_by, count, is_function, is_leaf}
 use Rattle.cfgx_grammar.proofs.ListLemmas.{all_of_first, all_of_second}
 use Rattle.cfgx_parser.specs.nodes.Prefix.{Node, prefix, prefix_each}
-use Rattle.cfg_expr.specs.Fold.{Operations, tree_value}
-use Rattle.cfg_expr.specs.Steps.{answer_at, mapped, mapped_each, steps, steps_each}
+use Rattle.cfg_expr.specs.Fold.{Operations, tree_map, tree_value, trees_map}
+use Rattle.cfg_expr.specs.Steps.{answer_at, steps, steps_each}
 use Rattle.cfg_expr.specs.declared.expr.steps.Step.{Step}
 use Rattle.cfg_expr.specs.declared.expr.steps.Step.TheVariants.{Ask, Literal, Function}
 use Rattle.cfg_expr.specs.nodes.Reading.{Item, answer_item, step_item, steps_value}
@@ -25,8 +24,7 @@ mutual
   pub steps-nodes : (tree : Tree ℕ) → map node_step (prefix tree) ≡ steps tree
   steps-nodes (Tree.leaf number) = refl
   steps-nodes (Tree.literal truth) = refl
-  steps-nodes (Tree.list ListFunction.all trees) = rw (steps_each-nodes trees) refl
-  steps-nodes (Tree.list ListFunction.any trees) = rw (steps_each-nodes trees) refl
+  steps-nodes (Tree.list function trees) = rw (steps_each-nodes trees) refl
   steps-nodes (Tree.not tree) = rw (steps-nodes tree) refl
 
   steps_each-nodes : (trees : Trees ℕ) → map node_step (prefix_each trees) ≡ steps_each trees
@@ -35,7 +33,7 @@ mutual
       ∙ rw (steps-nodes tree, steps_each-nodes trees) refl
 
 count-mapped : {X Y : Type 0} (f : X → Y) (trees : Trees X)
-    → count (mapped_each f trees) ≡ count trees
+    → count (trees_map f trees) ≡ count trees
 count-mapped f Trees.none = refl
 count-mapped f (Trees.more tree trees) = rw (count-mapped f trees) refl
 
@@ -52,10 +50,10 @@ module _ {T : Type 0} (logic : Operations T) (answers : List T) where
   items = map (step_item logic answers)
 
   abbrev given : Tree ℕ → Tree T
-  given = mapped (answer_at logic answers)
+  given = tree_map (answer_at logic answers)
 
   abbrev given_each : Trees ℕ → Trees T
-  given_each = mapped_each (answer_at logic answers)
+  given_each = trees_map (answer_at logic answers)
 
   mutual
     items-tree : (tree : Tree ℕ) → Inside (asked tree)
@@ -63,14 +61,7 @@ module _ {T : Type 0} (logic : Operations T) (answers : List T) where
     items-tree (Tree.leaf number) inside = ap (λ item. answer_item item ∷ [])
         (slice_get-get_or answers number logic.top inside.0)
     items-tree (Tree.literal truth) inside = refl
-    items-tree (Tree.list ListFunction.all trees) inside =
-        rw (
-          count-mapped (answer_at logic answers) trees,
-          items-trees trees
-              (all_of_first _ (asked_by is_function trees) _ inside)
-              (all_of_second _ (asked_by is_function trees) _ inside),
-        ) refl
-    items-tree (Tree.list ListFunction.any trees) inside =
+    items-tree (Tree.list function trees) inside =
         rw (
           count-mapped (answer_at logic answers) trees,
           items-trees trees

@@ -7,19 +7,18 @@ use Rattle.std.proofs.lemmas.List.Sums.{sum_by-append, sum_by-cons}
 use Rattle.std.proofs.lemmas.Simd.{map-map}
 use Rattle.std.proofs.lemmas.List.FromFn.{fill_by_all, length-range_with_len}
 use Rattle.std.specs.List.{AllByRecursion, range_with_len}
-use Rattle.cfgx_grammar.specs.Tree.{ListFunction, Tree, Trees, asked, asked_by, count, is_function}
-use Rattle.cfgx_grammar.specs.Tree.{is_leaf}
+use Rattle.cfgx_grammar.specs.Tree.{Tree, Trees, asked, asked_by, count, is_function, is_leaf}
 use Rattle.cfgx_parser.specs.declared.function.Func.TheVariants.{Not}
 use Rattle.cfgx_grammar.{specs.Answer.HasOneTree, proofs.Answering.only_tree}
-use Rattle.cfgx_parser.specs.nodes.Prefix.{Node, node_at, places, prefix}
+use Rattle.cfgx_parser.specs.nodes.Prefix.{Node, list_func, node_at, places, prefix}
 use Rattle.cfgx_parser.specs.nodes.Shape.{shape, shape_of}
 use Rattle.cfgx_parser.specs.declared.nodes.ExprNode.{ExprNode}
 use Rattle.cfgx_parser.proofs.Places.{length-places}
 use Rattle.cfgx_parser.proofs.Shapes.{length-shape, places-shape, shapes-shape}
 use Rattle.cfg_expr.specs.Fold.{Left, Operations, answered, answered_each, first_or}
-use Rattle.cfg_expr.specs.Fold.{left_to, tree_fold}
-use Rattle.cfg_expr.specs.Steps.{AreCounted, HasValue, answer_at, is_ask, list_step, mapped}
-use Rattle.cfg_expr.specs.Steps.{mapped_each, numbered, steps, steps_each, steps_of}
+use Rattle.cfg_expr.specs.Fold.{left_to, tree_fold, tree_map, trees_map}
+use Rattle.cfg_expr.specs.Steps.{AreCounted, HasValue, answer_at, is_ask, numbered, steps}
+use Rattle.cfg_expr.specs.Steps.{steps_each, steps_of}
 use Rattle.cfg_expr.proofs.Dealing.{asked-answered}
 use Rattle.cfg_expr.proofs.SameShapes.{answered-shape}
 use Rattle.cfg_expr.specs.declared.expr.steps.Step.{Step}
@@ -39,28 +38,28 @@ module _ {X Y : Type 0} (f : X → Y) (otherwise : X) where
 
   -- a map of answers that are dealt out is what the mapped ones give
   mutual
-    mapped-answered : {Q : Type 0} (tree : Tree Q) (answers : List X)
-        → mapped f (answered otherwise tree answers)
+    tree_map-answered : {Q : Type 0} (tree : Tree Q) (answers : List X)
+        → tree_map f (answered otherwise tree answers)
         ≡ answered (f otherwise) tree (map f answers)
-    mapped-answered (Tree.leaf x) answers = ap Tree.leaf (first-mapped answers)
-    mapped-answered (Tree.literal truth) answers = refl
-    mapped-answered (Tree.list function trees) answers = ap (Tree.list function)
-        (mapped_each-answered trees (left_to trees answers)
+    tree_map-answered (Tree.leaf x) answers = ap Tree.leaf (first-mapped answers)
+    tree_map-answered (Tree.literal truth) answers = refl
+    tree_map-answered (Tree.list function trees) answers = ap (Tree.list function)
+        (trees_map-answered trees (left_to trees answers)
         ∙ rw (drop-map f (length (asked_by is_function trees)) answers) refl)
-    mapped-answered (Tree.not tree) answers = ap Tree.not (mapped-answered tree answers)
+    tree_map-answered (Tree.not tree) answers = ap Tree.not (tree_map-answered tree answers)
 
-    mapped_each-answered : {Q : Type 0} (trees : Trees Q) (left : Left X)
-        → mapped_each f (answered_each otherwise trees left)
+    trees_map-answered : {Q : Type 0} (trees : Trees Q) (left : Left X)
+        → trees_map f (answered_each otherwise trees left)
         ≡ answered_each (f otherwise) trees (left_mapped left)
-    mapped_each-answered Trees.none left = refl
-    mapped_each-answered (Trees.more (Tree.leaf x) trees) left =
-        rw (first-mapped left.leaves, mapped_each-answered trees, drop-map f 1 left.leaves) refl
-    mapped_each-answered (Trees.more (Tree.literal truth) trees) left =
-        rw (mapped_each-answered trees) refl
-    mapped_each-answered (Trees.more tree trees) left =
+    trees_map-answered Trees.none left = refl
+    trees_map-answered (Trees.more (Tree.leaf x) trees) left =
+        rw (first-mapped left.leaves, trees_map-answered trees, drop-map f 1 left.leaves) refl
+    trees_map-answered (Trees.more (Tree.literal truth) trees) left =
+        rw (trees_map-answered trees) refl
+    trees_map-answered (Trees.more tree trees) left =
         rw (
-          mapped-answered tree left.functions,
-          mapped_each-answered trees,
+          tree_map-answered tree left.functions,
+          trees_map-answered trees,
           drop-map f (length (asked tree)) left.functions,
         ) refl
 
@@ -96,7 +95,7 @@ HasValue-steps logic tree answers many =
       are = refl;
       inside = rw (asked-numbered tree)
           (numbers-below 0 count (length answers) (omega (arith, many)));
-      value_is = rw (mapped-answered get count tree (range_with_len 0 count), all, past) refl;
+      value_is = rw (tree_map-answered get count tree (range_with_len 0 count), all, past) refl;
     }
 
 -- A tree has as many steps that ask as it asks predicates.
@@ -113,15 +112,9 @@ mutual
   asks-tree : (tree : Tree ℕ) → count_by is_ask (steps tree) ≡ length (asked tree)
   asks-tree (Tree.leaf number) = count-first (Ask number) []
   asks-tree (Tree.literal truth) = count-first (Literal truth) []
-  asks-tree (Tree.list ListFunction.all trees) = omega (
+  asks-tree (Tree.list function trees) = omega (
     arith,
-    count-first (list_step ListFunction.all (count trees)) (steps_each trees),
-    asks-trees trees,
-    length-append (asked_by is_function trees) (asked_by is_leaf trees),
-  )
-  asks-tree (Tree.list ListFunction.any trees) = omega (
-    arith,
-    count-first (list_step ListFunction.any (count trees)) (steps_each trees),
+    count-first (Function (list_func function (count trees))) (steps_each trees),
     asks-trees trees,
     length-append (asked_by is_function trees) (asked_by is_leaf trees),
   )

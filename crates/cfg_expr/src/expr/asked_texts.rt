@@ -6,16 +6,18 @@ ghost use Rattle.std.specs.Cmp.Lexicographic.{lists_equiv, lists_ties, lists_tot
 ghost use Rattle.std.specs.Cmp.Lexicographic.{nat_list_cmp_total, nat_list_eq_equiv, slice_cmp};
 ghost use Rattle.std.specs.Cmp.Lexicographic.{texts_ties};
 ghost use Rattle.std.specs.Ordering.{as_partial_cmp, nat_cmp, on};
-ghost use Rattle.cfg_expr.specs.Equality.{asked_code, code_cmp, code_eq, number_code, texts_code};
+ghost use Rattle.cfg_expr.specs.Equality.{code_cmp, code_eq, number_code, texts_code};
 
-use cfgx_parser::asked::Asked;
 use std::cmp::Ordering;
 
-/// What a predicate asks, with its texts. Predicates that are not equal have different ones.
+/// What a predicate asks: the numbers of an `Asked`, and the texts. Predicates that are not equal
+/// have different ones.
 #[derive(Clone, Copy, Debug)]
 pub struct AskedTexts<'a> {
-    /// What it asks, without its texts
-    pub asked: Asked,
+    /// The number of its kind, as `Asked::kind` tells it
+    pub kind: u32,
+    /// The number that it asks for, as `Asked::number` tells it
+    pub number: Option<u32>,
     /// The bytes of the key of a `Flag` or a `KeyValue`; for every other predicate none
     pub key: &'a [u8],
     /// The bytes of the value, if it is a text, else none
@@ -31,7 +33,10 @@ impl PartialEq for AskedTexts<'_> {
         ensures value { result ≡ on texts_code code_eq self.now other.now }
         ensures same { IsTrue result ↔ (texts_code self.now ≡ texts_code other.now) }
     {
-        self.asked == other.asked && self.key == other.key && self.value == other.value
+        self.kind == other.kind
+            && self.number == other.number
+            && self.key == other.key
+            && self.value == other.value
     }
 }
 
@@ -52,9 +57,9 @@ impl PartialOrd for AskedTexts<'_> {
     }
 }
 
-/// Numbers of what is asked come first: that of the kind, and then the other, where none is below
-/// each. Then come the lengths of key and value, and then key and value. So texts are compared only
-/// if all numbers are the same.
+/// The kinds are compared first, and then the numbers that are asked for: a predicate without such a
+/// number is less than one with it. Then the lengths of key and value are compared, and last the
+/// bytes of both. So texts are compared only if all numbers are equal.
 impl Ord for AskedTexts<'_> {
     ghost cmp = { on texts_code code_cmp };
 
@@ -65,12 +70,18 @@ impl Ord for AskedTexts<'_> {
     ghost matches_eq = { λ one other. lists_ties (slice_cmp nat_cmp) texts_ties (texts_code one)
         (texts_code other) };
 
+    // Inlined, since most that a search meets are of another kind, so that nothing else is compared.
+    #[inline(always)]
     fn cmp(&self, other: &Self) -> Ordering
         ensures { result ≡ code_cmp (texts_code self.now) (texts_code other.now) }
     {
-        let asked = compare_asked(self.asked, other.asked);
-        if asked.is_ne() {
-            return asked;
+        let kinds = self.kind.cmp(&other.kind);
+        if kinds.is_ne() {
+            return kinds;
+        }
+        let numbers = compare_numbers(self.number, other.number);
+        if numbers.is_ne() {
+            return numbers;
         }
         let key_lens = self.key.len().cmp(&other.key.len());
         if key_lens.is_ne() {
@@ -88,19 +99,7 @@ impl Ord for AskedTexts<'_> {
     }
 }
 
-/// Compares what predicates ask, without their texts.
-#[inline(always)]
-fn compare_asked(one: Asked, other: Asked) -> Ordering
-    ensures { result ≡ slice_cmp nat_cmp (asked_code one) (asked_code other) }
-{
-    let kinds = one.kind().cmp(&other.kind());
-    if kinds.is_ne() {
-        return kinds;
-    }
-    compare_numbers(one.number(), other.number())
-}
-
-/// Compares two numbers, where none is below each.
+/// Compares two numbers. `None` is less than any number.
 fn compare_numbers(one: Option<u32>, other: Option<u32>) -> Ordering
     ensures { result ≡ slice_cmp nat_cmp (number_code one) (number_code other) }
 {

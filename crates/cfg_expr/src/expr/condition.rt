@@ -1,18 +1,18 @@
 //! Borrowed conditions, and a reader that reads one condition after another.
-ghost use Rattle.std.specs.Prelude.{◌≡◌, ◌≤◌, length, map, IfOk, IsOk, List, OnErr, OnOk};
+ghost use Rattle.std.specs.Prelude.{◌≡◌, ◌≤◌, length, map, IfOk, IsOk, OnErr, OnOk};
 ghost use Rattle.std.specs.Prelude.{false, true};
-ghost use Rattle.std.specs.Iterator.{AlwaysYields, IsFinite};
+ghost use Rattle.std.specs.Iterator.{IsFinite};
 ghost use Rattle.cfgx_syntax.specs.Stripping.{strip};
 ghost use Rattle.cfg_expr.specs.Given.{AreAnswersTo};
 ghost use Rattle.cfgx_grammar.specs.Answer.{Answers, HasOneTree};
-ghost use Rattle.cfg_expr.specs.Fold.{tree_fold};
 ghost use Rattle.cfgx_grammar.specs.parsing.State.{initial};
 ghost use Rattle.cfgx_parser.specs.nodes.Prefix.{node_at, prefix, places};
 ghost use Rattle.cfgx_parser.specs.parsing.Parser.{state_of};
 ghost use Rattle.cfg_expr.specs.Deciding.{AreFillingBytes, AreFillings, Decides};
 ghost use Rattle.cfg_expr.specs.Deciding.{IsExactOverAll, held};
 ghost use Rattle.cfg_expr.specs.Evaluation.{AsksInOrder, EvaluatesTo, MayEvaluate};
-ghost use Rattle.cfg_expr.specs.Evaluation.{IsByLaneOverAll, IsValueInLanes};
+ghost use Rattle.cfg_expr.specs.Evaluation.{GivesAnswersTo, IsByLaneOverAll, IsValueInLanes};
+ghost use Rattle.cfg_expr.specs.Evaluation.{IsValueOver};
 ghost use Rattle.cfg_expr.specs.Located.{AreLocated};
 ghost use Rattle.cfg_expr.specs.Steps.{AreSteps, AreStepsAs, HasSteps};
 
@@ -27,7 +27,7 @@ use cfgx_parser::parser::Parser;
 use cfgx_syntax::lexer::Lexer;
 use cfgx_syntax::logic::Kleene64;
 use cfgx_syntax::logic::laws::are_disjoint;
-use smallvec::SmallVec;
+use cfgx_syntax::stripping::{Stripped, strip};
 use std::alloc::{AllocError, Global};
 use std::marker::Model;
 use std::{fmt, mem};
@@ -84,7 +84,7 @@ impl<'a> Condition<'a> {
     pub fn predicates(&self) -> Predicates<'a>
         ensures { AsksInOrder self.now result }
     {
-        Predicates::new(self.original, self.nodes, self.places)
+        Predicates::new(self.original, self.located_predicates())
     }
 
     /// Returns the predicates where they stand, in the order in which they are asked.
@@ -127,21 +127,13 @@ impl<'a> Condition<'a> {
         A: SmallAllocator,
         requires can { I.can_next answers }
         requires ends { IsFinite (I.remaining answers) }
-        requires given { (given : List T) × AlwaysYields I.next_gives (λ x. x) answers given
-            × AreAnswersTo given self.now }
+        requires given { GivesAnswersTo I.next_gives answers self.now }
         // This also holds if the call is out of memory.
         ensures one { HasOneTree self.now }
-        ensures value { IfOk result (λ value. (given : List T)
-            → AlwaysYields I.next_gives (λ x. x) answers given → AreAnswersTo given self.now
-            → (one : HasOneTree self.now) × (value ≡ tree_fold T.Logic one.tree given)) }
+        ensures value { IfOk result (IsValueOver T.Logic I.next_gives answers self.now) }
         ensures short { length self.now ≤ 32 → IsOk result }
     {
-        let nodes = self.nodes();
-        let mut slots = SmallVec::new(&alloc);
-        evaluating::push_empty_slots(&mut slots, nodes.len())?;
-        let slots = slots.as_mut_slice();
-        evaluating::put_each(self.places(), answers, slots);
-        Ok(evaluating::eval_nodes(nodes, slots).unwrap())
+        evaluating::eval_over(alloc, self, answers)
     }
 
     /// Decides the condition as `Expression::decide` does, and replaces `decision`. New fillings
@@ -293,9 +285,10 @@ fn begin<A: SmallAllocator>(
     Ok(())
 }
 
-/// Reads one condition after another in the same memory. A read allocates only for a faulty text,
-/// for one that needs more room than any before, and once after the first text that has a node.
-/// Contracts see whether it has read a text.
+/// Reads one condition after another in the same memory. A read allocates only for a faulty text
+/// and for one that needs more room than any before. There is one exception: the read that follows
+/// the first text with a node moves the parser's vectors to the heap, where they are cleared faster
+/// than inline. Contracts see whether it has read a text.
 #[derive(Drop)]
 pub struct ConditionReader<'a, A: SmallAllocator = Global> {
     alloc: A,
@@ -343,10 +336,25 @@ impl<'a, A: SmallAllocator> ConditionReader<'a, A> {
         ensures short { self.old ≡ false → HasOneTree (strip text.now)
             → length (strip text.now) ≤ 4 → IsOk result }
     {
-        let lexer = Lexer::new(self.alloc, text);
+        self.read_stripped(strip(text))
+    }
+
+    /// Reads a text that is stripped already, as `read` does.
+    ///
+    /// # Errors
+    ///
+    /// Those of `read`.
+    #[inline(always)]
+    pub fn read_stripped(&mut self, stripped: Stripped<'a>) -> Result<Condition<'_>, Failure<A>>
+        ensures answers { Answers stripped.entry.text.now result }
+        ensures short { self.old ≡ false → HasOneTree stripped.entry.text.now
+            → length stripped.entry.text.now ≤ 4 → IsOk result }
+    {
+        let lexer = Lexer::of_stripped(self.alloc, stripped);
         let original = lexer.original();
         let has_read = mem::replace(&mut self.has_read, true);
         begin(&mut self.parser, has_read, original.len())?;
+        // The failure of a faulty text holds a copy of the text, which is what `alloc` is for.
         self.parser.read_all(self.alloc, lexer)?;
         let parser = &self.parser;
         Ok(Condition {

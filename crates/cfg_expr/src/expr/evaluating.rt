@@ -16,7 +16,7 @@ ghost use Rattle.cfg_expr.specs.Fold.{from_last, literal_value, tree_fold};
 ghost use Rattle.cfg_expr.specs.Given.{AreAnswersTo};
 ghost use Rattle.cfg_expr.specs.Predicate.{question_of};
 ghost use Rattle.cfg_expr.specs.Asking.{Asks, Calls, MayAsk, MayAskEach};
-ghost use Rattle.cfg_expr.specs.Evaluation.{Evaluates, MayEvaluate};
+ghost use Rattle.cfg_expr.specs.Evaluation.{Evaluates, GivesAnswersTo, IsValueOver, MayEvaluate};
 ghost use Rattle.cfg_expr.specs.nodes.AnswerSlots.{no_answers, with_answers};
 ghost use Rattle.cfg_expr.specs.nodes.Reading.{applied, apply, as_function, as_leaf, entries};
 ghost use Rattle.cfg_expr.specs.nodes.Reading.{identity_of, item, join_of, joined, nodes_value};
@@ -124,8 +124,8 @@ impl Connective {
     }
 
     /// Returns the joined value of the members: first the leaves are joined and then the functions,
-    /// each from the last to the first. This is the order of `cfg-expr`, which matters to a `Logic`
-    /// whose operations do not commute. The members are in the order of the text.
+    /// each from the last to the first. The members are in the order of the text. `cfg-expr` joins
+    /// in the same order, which matters to a `Logic` in which `a.and(b)` may differ from `b.and(a)`.
     fn join_all<T: Logic>(self, members: &mut [Slot<T>]) -> T
         ensures { result ≡ joined T.Logic self members.old }
     {
@@ -237,7 +237,7 @@ impl<T: Logic> Stack<'_, T> {
 /// Reads the nodes from the last to the first over the answers in the slots, and returns the value
 /// that is left alone, or `None` if there is none. There is one if the nodes are those of a tree,
 /// and each of its predicates has an answer.
-pub(super) fn eval_nodes<T: Logic>(nodes: &[ExprNode], slots: &mut [Slot<T>]) -> Option<T>
+fn eval_nodes<T: Logic>(nodes: &[ExprNode], slots: &mut [Slot<T>]) -> Option<T>
     requires { length slots.old ≡ length nodes.now }
     ensures { result ≡ nodes_value T.Logic nodes.now slots.old }
 {
@@ -249,8 +249,9 @@ pub(super) fn eval_nodes<T: Logic>(nodes: &[ExprNode], slots: &mut [Slot<T>]) ->
     stack.into_value()
 }
 
-/// Pushes `count` empty slots to `slots`, which is new. Up to 33 are inline and take no memory. A
-/// text has no more nodes than bytes, so one of at most 32 bytes takes none, as `eval` promises.
+/// Pushes `count` empty slots to `slots`, which is new. Up to 33 are inline and take no memory.
+/// `eval_steps` promises this for 33 steps. `eval` promises it for a text of at most 32 bytes, which
+/// has at most 32 nodes, since a text has no more nodes than bytes.
 // A new vector that was returned in a `Result` would be copied out of it.
 pub(super) fn push_empty_slots<T: Logic, A: Allocator>(
     slots: &mut SmallVec<Slot<T>, 33, &A>,
@@ -304,7 +305,7 @@ where
 }
 
 /// Puts the `answers` into the slots at `places`, until one of the two ends.
-pub(super) fn put_each<T: Logic, I: Iterator<Item = T> + Drop>(
+fn put_each<T: Logic, I: Iterator<Item = T> + Drop>(
     places: &[usize],
     answers: I,
     slots: &mut [Slot<T>],
@@ -345,6 +346,38 @@ where
     push_empty_slots(&mut slots, nodes.len())?;
     let slots = slots.as_mut_slice();
     ask_each(condition.places(), condition.predicates(), slots, ep);
+    // By the invariant of `Condition`, the nodes are those of a tree, and so have a value.
+    Ok(eval_nodes(nodes, slots).unwrap())
+}
+
+/// Returns the value of the condition over the answers that `answers` gives, as
+/// `Condition::eval_over` does. This differs from `eval` in where an answer comes from.
+///
+/// # Errors
+///
+/// `AllocError`: `alloc` refused memory for the slots.
+pub(crate) fn eval_over<T, I, A>(
+    alloc: A,
+    condition: &Condition<'_>,
+    answers: I,
+) -> Result<T, AllocError>
+where
+    T: Logic,
+    I: Iterator<Item = T> + Drop,
+    A: SmallAllocator,
+    requires can { I.can_next answers }
+    requires ends { IsFinite (I.remaining answers) }
+    requires given { GivesAnswersTo I.next_gives answers condition.now }
+    ensures one { HasOneTree condition.now }
+    ensures value { IfOk result (IsValueOver T.Logic I.next_gives answers condition.now) }
+    ensures short { length condition.now ≤ 32 → IsOk result }
+{
+    let nodes = condition.nodes();
+    let mut slots = SmallVec::new(&alloc);
+    push_empty_slots(&mut slots, nodes.len())?;
+    let slots = slots.as_mut_slice();
+    put_each(condition.places(), answers, slots);
+    // By the invariant of `Condition`, the nodes are those of a tree, and so have a value.
     Ok(eval_nodes(nodes, slots).unwrap())
 }
 
@@ -363,5 +396,5 @@ where
         × (value ≡ tree_fold T.Logic one.tree answers.now)) }
     ensures short { length condition.now ≤ 32 → IsOk result }
 {
-    condition.eval_over(alloc, answers.iter().copied())
+    eval_over(alloc, condition, answers.iter().copied())
 }

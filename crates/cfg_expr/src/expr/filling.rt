@@ -15,7 +15,8 @@
 //! Each subtree has a node of its own, so there are never more entries than nodes. Both lists hold
 //! 33 entries inline, so up to 33 nodes take no memory.
 ghost use Rattle.std.specs.Prelude.{◌≡◌, ◌≤◌, ◌<◌, ◌+◌, ◌++◌, ◌∷◌, true, false, length};
-ghost use Rattle.std.specs.Prelude.{map, replicate, reverse, List, OnErr, OnOk, vec_capacity};
+ghost use Rattle.std.specs.Prelude.{map, replicate, reverse, unwrap_or, List, OnErr, OnOk};
+ghost use Rattle.std.specs.Prelude.{vec_capacity};
 ghost use Rattle.std.specs.List.{AllByRecursion};
 ghost use Rattle.cfg_expr.specs.Given.{AreAnswersTo};
 ghost use Rattle.cfgx_grammar.specs.Answer.{HasOneTree};
@@ -58,6 +59,7 @@ fn pass_node<A: SmallAllocator>(
         → negated.new.items ++ pass rest (reverse pending.new.items)
         ≡ negated.old.items ++ pass (shape node.now ∷ rest) (reverse pending.old.items)) }
 {
+    // By the `requires`, there is an entry.
     let is_negated = pending.pop().unwrap();
     match node {
         ExprNode::Fn { func, .. } => {
@@ -98,6 +100,14 @@ fn ensure_capacity<A: Allocator>(filling: &mut Vec<bool, A>, count: usize) -> Re
     filling.reserve(count.saturating_sub(filling.len()))
 }
 
+/// Returns what a filling has for an answer: the answer, if it is known. For an unknown one it is
+/// `fill`, or the opposite of `fill` if `is_negated` is true.
+fn filled(answer: Option<bool>, fill: bool, is_negated: bool) -> bool
+    ensures { result ≡ unwrap_or answer (turned fill is_negated) }
+{
+    answer.unwrap_or(fill != is_negated)
+}
+
 /// Replaces the items of `if_true` and `if_false` by the two fillings of `answers`. `places` has,
 /// for each answer, the place of its predicate among the nodes. `negated` says of each node whether
 /// it is a predicate below an odd number of `not`.
@@ -106,7 +116,7 @@ fn ensure_capacity<A: Allocator>(filling: &mut Vec<bool, A>, count: usize) -> Re
 ///
 /// `AllocError`: the allocator refused memory. Both keep their items, since room is made before
 /// anything is cleared.
-fn fill<A: SmallAllocator>(
+fn set_fillings<A: SmallAllocator>(
     if_true: &mut Vec<bool, A>,
     if_false: &mut Vec<bool, A>,
     negated: &[bool],
@@ -128,8 +138,8 @@ fn fill<A: SmallAllocator>(
     if_false.clear();
     for (place, answer) in places.iter().zip(answers) {
         let is_negated = negated[*place];
-        if_true.push_reserved(answer.unwrap_or(!is_negated));
-        if_false.push_reserved(answer.unwrap_or(is_negated));
+        if_true.push_reserved(filled(*answer, true, is_negated));
+        if_false.push_reserved(filled(*answer, false, is_negated));
     }
     Ok(())
 }
@@ -155,11 +165,11 @@ fn set_unknown<A: SmallAllocator>(
     ensures refused { OnErr result (held decision.new ≡ held decision.old) }
 {
     if let Decision::Unknown { if_true, if_false } = decision {
-        return fill(if_true, if_false, negated, places, answers);
+        return set_fillings(if_true, if_false, negated, places, answers);
     }
     let mut if_true = Vec::new(alloc);
     let mut if_false = Vec::new(alloc);
-    fill(&mut if_true, &mut if_false, negated, places, answers)?;
+    set_fillings(&mut if_true, &mut if_false, negated, places, answers)?;
     *decision = Decision::Unknown { if_true, if_false };
     Ok(())
 }
@@ -194,13 +204,6 @@ pub(crate) fn decide<A: SmallAllocator>(
     set_unknown(alloc, decision, negated.as_slice(), places, answers)
 }
 
-/// Returns `value`, or its opposite if `is_negated` is true.
-fn turned(value: bool, is_negated: bool) -> bool
-    ensures { result ≡ turned value is_negated }
-{
-    value != is_negated
-}
-
 /// Returns a truth value as a byte.
 fn truth_byte(truth: bool) -> u8
     ensures { result ≡ truth_byte truth }
@@ -209,7 +212,7 @@ fn truth_byte(truth: bool) -> u8
 }
 
 /// Writes the filling of `answers` with `fill` to `buffer`, a byte for each answer. `places` and
-/// `negated` are as in `fill`.
+/// `negated` are as in `set_fillings`.
 fn write_filling(
     negated: &[bool],
     places: &[usize],
@@ -224,7 +227,7 @@ fn write_filling(
 {
     let mut written = 0;
     for (place, answer) in places.iter().zip(answers) {
-        buffer[written] = truth_byte(answer.unwrap_or(turned(fill, negated[*place])));
+        buffer[written] = truth_byte(filled(*answer, fill, negated[*place]));
         written += 1;
     }
 }

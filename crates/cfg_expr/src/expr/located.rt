@@ -6,7 +6,8 @@ use cfgx_parser::nodes::ExprNode;
 use std::fmt;
 use std::marker::Model;
 
-/// The predicates of a condition where they stand, in the order in which they are asked.
+/// The predicates of a condition where they stand, in the order in which they are asked. They have
+/// the spans of their texts, and `Predicates` has the texts.
 #[derive(Drop)]
 pub struct LocatedPredicates<'a> {
     pub(super) nodes: &'a [ExprNode],
@@ -51,11 +52,14 @@ impl Iterator for LocatedPredicates<'_> {
 
     ghost remaining = { item_count (λ s. s) };
 
+    // Inlined, since `Predicates` yields each predicate by it.
+    #[inline(always)]
     fn next(&mut self) -> Option<LocatedPredicate> {
         let (place, others) = self.places.split_first()?;
         self.places = others;
         match self.nodes.get(*place) {
             Some(ExprNode::Predicate(predicate)) => Some(*predicate),
+            // By the invariant, a predicate stands at each place.
             _ => unreachable!(),
         }
     }

@@ -1,8 +1,9 @@
 //! The predicates of a condition, and the iterator over them.
-ghost use Rattle.std.specs.Prelude.{◌≡◌, ◌↔◌, IsTrue, length};
+ghost use Rattle.std.specs.Prelude.{◌≡◌, ◌↔◌, IsTrue, length, map};
 ghost use Rattle.std.specs.Cmp.{partial_equiv_from_equiv};
 ghost use Rattle.std.specs.Cmp.Lexicographic.{lists_equiv, nat_list_eq_equiv};
 ghost use Rattle.std.specs.Cmp.{on_equiv};
+ghost use Rattle.std.specs.List.{AllByRecursion};
 ghost use Rattle.std.specs.Ordering.{on};
 ghost use Rattle.cfg_expr.specs.Equality.{question_code, question_eq, target_code, target_eq};
 ghost use Rattle.cfg_expr.specs.Equality.{texts_code};
@@ -10,14 +11,13 @@ ghost use Rattle.cfg_expr.specs.Predicate.{question_of, target_of};
 ghost use Rattle.cfgx_parser.specs.Asked.{target_text, target_with, without_text};
 ghost use Rattle.cfgx_parser.specs.Located.{HasCut, question_at};
 
-use super::AskedTexts;
+use super::{AskedTexts, LocatedPredicates};
 use cfgx_fields::atomic::HasAtomic;
 use cfgx_fields::endian::Endian;
 use cfgx_fields::text_key::TextKey;
 use cfgx_fields::{Abi, Arch, Env, Family, Os, Panic, Vendor};
 use cfgx_parser::asked::{Asked, AskedTarget};
 use cfgx_parser::located::LocatedPredicate;
-use cfgx_parser::nodes::ExprNode;
 use std::alloc::{Allocator, Global};
 use std::marker::Model;
 
@@ -206,55 +206,49 @@ impl<A: Allocator> Predicate<'_, A> {
             Predicate::KeyValue { key, val } => (Asked::KeyValue, *key, *val),
         };
         AskedTexts {
-            asked,
+            kind: asked.kind(),
+            number: asked.number(),
             key: key.as_bytes(),
             value: value.as_bytes(),
         }
     }
 }
 
-/// The predicates of a condition, in the order in which they are asked.
+/// The predicates of a condition, in the order in which they are asked, with their texts.
 #[derive(Drop)]
 pub struct Predicates<'a> {
     text: &'a str,
-    nodes: &'a [ExprNode],
-    /// The places of the predicates that are left
-    places: &'a [usize],
+    /// Where those that are left stand in the text
+    located: LocatedPredicates<'a>,
 }
 
 impl<'a> Model for Predicates<'a> {
-    ghost use Rattle.std.specs.Prelude.{List};
+    ghost use Rattle.std.specs.Prelude.{List, map};
+    ghost use Rattle.std.specs.List.{AllByRecursion};
     ghost use Rattle.cfgx_grammar.specs.Question.{Question};
-    ghost use Rattle.cfgx_parser.specs.nodes.KeepsTree.{questions_at, NamePredicates};
+    ghost use Rattle.cfgx_parser.specs.Located.{HasCut, question_at};
 
     ghost Value = { List Question };
 
-    ghost view = { λ p. questions_at p.text.now p.nodes.now p.places.now };
+    ghost view = { λ p. map (question_at p.text.now) p.located };
 
-    ghost invariant = { λ p. NamePredicates p.text.now p.nodes.now p.places.now };
+    ghost invariant = { λ p. AllByRecursion (HasCut p.text.now) p.located };
 }
 
 impl<'a> Predicates<'a> {
-    ghost use Rattle.cfgx_parser.specs.nodes.KeepsTree.{questions_at, NamePredicates};
-
-    /// Returns the iterator over the predicates at `places` among `nodes`, which are those of
-    /// `text`.
-    pub(super) fn new(text: &'a str, nodes: &'a [ExprNode], places: &'a [usize]) -> Self
-        requires { NamePredicates text.now nodes.now places.now }
-        ensures { result ≡ questions_at text.now nodes.now places.now }
+    /// Returns the iterator over the predicates at `located`, which stand in `text`.
+    pub(super) fn new(text: &'a str, located: LocatedPredicates<'a>) -> Self
+        requires { AllByRecursion (HasCut text.now) located }
+        ensures { result ≡ map (question_at text.now) located.entry }
     {
-        Predicates {
-            text,
-            nodes,
-            places,
-        }
+        Predicates { text, located }
     }
 
     /// Returns the number of predicates that are left.
     pub fn left(&self) -> usize
         ensures { result ≡ length self.now }
     {
-        self.places.len()
+        self.located.left()
     }
 }
 
@@ -269,11 +263,7 @@ impl<'a> Iterator for Predicates<'a> {
 
     #[inline(always)]
     fn next(&mut self) -> Option<Predicate<'a>> {
-        let (place, others) = self.places.split_first()?;
-        self.places = others;
-        match self.nodes.get(*place) {
-            Some(ExprNode::Predicate(located)) => Some(Predicate::of(located, self.text)),
-            _ => unreachable!(),
-        }
+        let located = self.located.next()?;
+        Some(Predicate::of(&located, self.text))
     }
 }

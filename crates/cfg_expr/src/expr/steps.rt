@@ -174,7 +174,8 @@ impl FromStep for Step {
     }
 }
 
-/// Returns the step of a node. A predicate has the number 0.
+/// Returns the step of a node. That of a predicate asks for the answer 0, until `write_numbers`
+/// writes the step with its own number.
 fn step_of(node: &ExprNode) -> Step
     ensures { result ≡ shape_step (shape node.now) }
 {
@@ -185,7 +186,7 @@ fn step_of(node: &ExprNode) -> Step
     }
 }
 
-/// Writes a step for each node, in order. Each predicate has the number 0.
+/// Writes the step of each node, in order, as `step_of` returns it.
 fn write_nodes<T: FromStep>(nodes: &[ExprNode], buffer: &mut [T])
     requires { length buffer.old ≡ length nodes.now }
     ensures { buffer.new ≡ map (λ node. T.form (shape_step (shape node))) nodes.now }
@@ -195,7 +196,8 @@ fn write_nodes<T: FromStep>(nodes: &[ExprNode], buffer: &mut [T])
     }
 }
 
-/// Writes steps that ask for the answers 0, 1, 2 and so on, one at each of `places`.
+/// Writes steps that ask for the answers 0, 1, 2 and so on, one at each of `places`, over those that
+/// `write_nodes` wrote.
 fn write_numbers<T: FromStep>(places: &[usize], buffer: &mut [T])
     requires { AllByRecursion (λ place. place < length buffer.old) places.now }
     ensures { buffer.new ≡ put_at buffer.old places.now

@@ -11,7 +11,7 @@ use Rattle.cfgx_engine.specs.Facts.{FactTexts}
 -- the code of what is named, whose texts begin at its start in the buffer
 abbrev pub code_at : List ℕ → NamedPredicate → Code
 code_at buffer named = let texts = drop named.start buffer in
-    code_with named.asked (take named.key_len texts)
+    code_with named.kind named.number (take named.key_len texts)
     (take named.value_len (drop named.key_len texts))
 
 -- its texts lie in a buffer of this length

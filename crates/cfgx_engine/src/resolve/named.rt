@@ -8,15 +8,16 @@ ghost use Rattle.cfg_expr.specs.Predicate.{question_of};
 use super::index::{Entries, ends_with};
 use cfg_expr::Predicate;
 use cfg_expr::expr::logic::Kleene64;
-use cfg_expr::expr::{Asked, AskedTexts, Predicates};
+use cfg_expr::expr::{AskedTexts, Predicates};
 use std::alloc::{AllocError, Allocator};
 use std::marker::Model;
 
-/// A predicate that facts name. In the buffer, its key begins at `start`, and its value directly
-/// follows.
+/// A predicate that facts name. `kind` and `number` are those of its `AskedTexts`. In the buffer,
+/// its key begins at `start`, and its value directly follows.
 #[derive(Clone, Copy, Debug)]
 struct NamedPredicate {
-    asked: Asked,
+    kind: u32,
+    number: Option<u32>,
     start: usize,
     key_len: usize,
     value_len: usize,
@@ -33,7 +34,8 @@ impl NamedPredicate {
     {
         let texts = behind(buffer, self.start);
         AskedTexts {
-            asked: self.asked,
+            kind: self.kind,
+            number: self.number,
             key: front(texts, self.key_len),
             value: front(behind(texts, self.key_len), self.value_len),
         }
@@ -118,12 +120,18 @@ impl<A: Allocator> NamedPredicates<A> {
         ensures { OnOk result
             (self.new ≡ self.old ++ question_code (question_of predicate.now) ∷ []) }
     {
-        let AskedTexts { asked, key, value } = predicate.asked_texts();
+        let AskedTexts {
+            kind,
+            number,
+            key,
+            value,
+        } = predicate.asked_texts();
         let start = self.buffer.len();
         self.buffer.extend_from_slice(key)?;
         self.buffer.extend_from_slice(value)?;
         self.named.push(NamedPredicate {
-            asked,
+            kind,
+            number,
             start,
             key_len: key.len(),
             value_len: value.len(),

@@ -1,4 +1,4 @@
-//! The program of `README.md`.
+//! The program of `docs/README.md`.
 use cfg_expr::{Expression, Predicate};
 use std::io;
 

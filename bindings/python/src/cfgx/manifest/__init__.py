@@ -1,7 +1,8 @@
 """Which dependencies of a `Cargo.toml` Cargo takes on each platform.
 
 `report` is what the command `cfgx-deps` prints. It starts `cargo` in the folder `/` for the list of
-dependencies and for the host, and no other program unless `asks_rustc` is set.
+dependencies and for the host, and no other program unless `asks_rustc` is set. `resolved` is what
+the command prints with `--resolved`: which packages of a lock file a build for each platform has.
 
 Cargo reads the condition of a dependency for each *unit* that it builds of the package, on the
 platform of the unit. With a target, build scripts and proc-macros are units for the host, and so is
@@ -21,15 +22,18 @@ own, such as `loom`, is unknown where flags may be set.
 ...     print(type(error).__name__, error)
 RequestError tests is no kind: one is normal, dev or build
 """
-from ._cargo import Dependency
+from ._cargo import Dependency, Package, Source
 from ._conditions import Fault, Unknown
 from ._errors import CargoError, CompilerError, FactsError, ManifestError, RequestError
+from ._graph import Features
 from ._platforms import Platform
 from ._report import Report, Row, Value, report
+from ._resolved import Leg, Resolved, Route, Used, resolved
 
 __all__ = [
-    "CargoError", "CompilerError", "Dependency", "FactsError", "Fault", "ManifestError", "Platform",
-    "Report", "RequestError", "Row", "Unknown", "Value", "report",
+    "CargoError", "CompilerError", "Dependency", "FactsError", "Fault", "Features", "Leg",
+    "ManifestError", "Package", "Platform", "Report", "RequestError", "Resolved", "Route", "Row",
+    "Source", "Unknown", "Used", "Value", "report", "resolved",
 ]
 
 # Tracebacks and pages name the module that callers import from.

@@ -3,10 +3,9 @@ import dataclasses
 import difflib
 import json
 import os
-from typing import Any, Dict, FrozenSet, Optional, Sequence, Tuple
+from typing import Any, Dict, FrozenSet, Iterator, NamedTuple, Optional, Sequence, Tuple
 
-from .. import _process
-from . import _files
+from .. import _files, _process
 from ._errors import CargoError, RequestError
 
 KINDS = ("normal", "dev", "build")
@@ -15,6 +14,17 @@ TIMEOUT = 60.0
 # What cargo may print, in bytes, and the data that its process may have. A manifest of a megabyte
 # may define a long list once, and make cargo print it ten thousand times.
 MOST_PRINTED, MOST_DATA = 32 << 20, 1 << 30
+# Beside a graph, cargo would read and write what rustc says in the folder `target` of a workspace.
+VARIABLES = {"CARGO_CACHE_RUSTC_INFO": "0"}
+
+
+class Source(NamedTuple):
+    """From where Cargo takes a package."""
+
+    kind: str
+    """`registry`, `git` or `path`."""
+    location: str
+    """The address of the registry or of the repository, as Cargo prints it, or a folder."""
 
 
 @dataclasses.dataclass(frozen=True)
@@ -35,20 +45,40 @@ class Dependency:
     """A condition in `cfg( )`, as Cargo prints it, or a triple, or `None` if there is none."""
     path: Optional[str] = None
     """The folder of the package that it stands for, if the manifest names one."""
+    requirement: str = "*"
+    """The versions that it may have, as Cargo prints them, such as `^1.2`."""
+    source: Source = Source("registry", "")
+    """From where Cargo takes the package that it stands for."""
+    uses_default_features: bool = True
+    """Whether it asks for the feature `default`."""
+    features: Tuple[str, ...] = ()
+    """The features that it asks for, in the order of the manifest."""
+    package_version: str = ""
+    """The version of the package that has it."""
+    package_manifest: str = ""
+    """The path of the manifest of the package that has it."""
 
 
 @dataclasses.dataclass(frozen=True)
 class Package:
-    """A package of a workspace."""
+    """A package that Cargo lists, such as one of a workspace."""
 
     name: str
     """Its name."""
+    version: str
+    """Its version."""
+    identity: str
+    """The text that stands for it alone, as Cargo prints it."""
+    source: Source
+    """From where Cargo takes it."""
     manifest_path: str
     """The path of its manifest."""
     dependencies: Tuple[Dependency, ...]
     """Its dependencies, in the order in which Cargo lists them."""
     has_build_script: bool
     """Whether Cargo builds a build script."""
+    is_macro: bool
+    """Whether its library is a proc-macro."""
     has_macro: bool
     """Whether its library or an example is a proc-macro, which Cargo builds for the host."""
     has_target_units: bool
@@ -75,19 +105,39 @@ class Workspace:
     own: Tuple[Package, ...]
     """The package of the manifest alone, or if it has none, all packages."""
 
-    def chosen(self, names: Sequence[str], is_whole: bool) -> Tuple[Package, ...]:
+    @classmethod
+    def of(cls, packages: Sequence[Package], manifest: str) -> "Workspace":
+        """Returns the workspace with these packages, of which the manifest is one or the root."""
+        same = os.path.realpath(manifest)
+        own = tuple(one for one in packages if os.path.realpath(one.manifest_path) == same)
+        return cls(tuple(packages), own or tuple(packages))
+
+    def chosen(
+        self, names: Sequence[str], is_whole: bool, excluded: Sequence[str] = ()
+    ) -> Tuple[Package, ...]:
         """Returns the packages with these names or, if there are no names, all packages of the
-        workspace or those of the manifest. Raises `RequestError`."""
-        if not names:
-            return self.packages if is_whole else self.own
+        workspace but those that are excluded, or those of the manifest. Raises `RequestError`."""
+        if names and is_whole:
+            raise RequestError("-p names packages, and --workspace takes all of them: give one")
+        if excluded and not is_whole:
+            raise RequestError("--exclude needs --workspace, of which it leaves out packages")
+        self._expect(*names, *excluded)
+        if names:
+            wanted = frozenset(names)
+            return tuple(one for one in self.packages if one.name in wanted)
+        unwanted = frozenset(excluded)
+        if is_whole:
+            return tuple(one for one in self.packages if one.name not in unwanted)
+        return self.own
+
+    def _expect(self, *names: str) -> None:
+        """Raises `RequestError` if the workspace lacks a package."""
         known = dict.fromkeys(one.name for one in self.packages)
         missing = [name for name in names if name not in known]
         if missing:
             close = difflib.get_close_matches(missing[0], known, 1)
             hint = f"; is it {close[0]}?" if close else ""
             raise RequestError(f"the workspace has no package {missing[0]}{hint}")
-        wanted = frozenset(names)
-        return tuple(one for one in self.packages if one.name in wanted)
 
 
 def manifest_above(folder: str) -> str:
@@ -139,7 +189,7 @@ def output_of(*words: str, seconds: float) -> str:
     it may refuse. Raises `CargoError`."""
     limits = _process.Limits(seconds, MOST_PRINTED, MOST_DATA)
     try:
-        run = _process.run(["cargo", *words], limits)
+        run = _process.run(["cargo", *words], limits, VARIABLES)
     except FileNotFoundError as error:
         message = "there is no cargo on the path, and only cargo reads a manifest"
         raise CargoError(message) from error
@@ -177,21 +227,20 @@ def workspace_of(manifest: str, seconds: float = TIMEOUT) -> Workspace:
         packages = tuple(map(package_of, json.loads(text)["packages"]))
     except (ValueError, LookupError, TypeError, AttributeError, RecursionError) as error:
         raise CargoError(f"cargo lists no packages of {manifest}: {error}") from error
-    same = os.path.realpath(manifest)
-    own = tuple(one for one in packages if os.path.realpath(one.manifest_path) == same)
-    return Workspace(packages, own or packages)
+    return Workspace.of(packages, manifest)
 
 
 def package_of(listed: Dict[str, Any]) -> Package:
     """Returns a package that Cargo lists."""
-    name = listed["name"]
+    name, version, manifest = listed["name"], listed["version"], listed["manifest_path"]
     parts = [one for one in map(part_of, listed["targets"]) if one.is_built]
     macros = [one for one in parts if "proc-macro" in one.kinds]
     others = [one for one in parts if not one.kinds & {"custom-build", "proc-macro"}]
     return Package(
-        name, listed["manifest_path"],
-        tuple(dependency_of(name, one) for one in listed["dependencies"]),
+        name, version, listed["id"], source_of(listed["source"], os.path.dirname(manifest)),
+        manifest, tuple(dependencies_of(listed)),
         has_build_script=any("custom-build" in one.kinds for one in parts),
+        is_macro=any("proc-macro" in one["kind"] for one in listed["targets"]),
         has_macro=bool(macros), has_target_units=bool(others),
         has_macro_tests=any(one.is_tested for one in macros),
         has_target_tests=any(one.is_tested for one in others),
@@ -223,10 +272,27 @@ def part_of(listed: Dict[str, Any]) -> Part:
     )
 
 
-def dependency_of(package: str, listed: Dict[str, Any]) -> Dependency:
-    """Returns a dependency that Cargo lists of a package."""
-    rename, name = listed["rename"], listed["name"]
-    return Dependency(
-        package, rename or name, name if rename else None, listed["kind"] or "normal",
-        listed["optional"], listed["target"], listed.get("path"),
-    )
+def dependencies_of(listed: Dict[str, Any]) -> Iterator[Dependency]:
+    """Yields the dependencies that Cargo lists of a package. Equal texts are one object, since a
+    package may have a hundred thousand dependencies."""
+    name, version, manifest = listed["name"], listed["version"], listed["manifest_path"]
+    texts: Dict[str, str] = {}
+    sources: Dict[Tuple[Optional[str], Optional[str]], Source] = {}
+    for one in listed["dependencies"]:
+        rename, path, requirement = one["rename"], one.get("path"), one["req"]
+        origin = one["source"], path
+        yield Dependency(
+            name, rename or one["name"], one["name"] if rename else None, one["kind"] or "normal",
+            one["optional"], one["target"], path, texts.setdefault(requirement, requirement),
+            sources.setdefault(origin, source_of(*origin)), one["uses_default_features"],
+            tuple(one["features"]), version, manifest,
+        )
+
+
+def source_of(origin: Optional[str], folder: Optional[str]) -> Source:
+    """Returns the source that Cargo lists as `origin`, or the folder if it lists none."""
+    if origin is None:
+        return Source("path", folder or "")
+    kind, _, location = origin.partition("+")
+    # The address of a sparse registry begins with the kind.
+    return Source(kind if kind == "git" else "registry", origin if kind == "sparse" else location)

@@ -10,8 +10,8 @@ import dataclasses
 import itertools
 import re
 from typing import (
-    Any, Dict, FrozenSet, Iterable, Iterator, List, Mapping, NamedTuple, Optional, Sequence, Tuple,
-    Union,
+    Any, Callable, Dict, FrozenSet, Iterable, Iterator, List, Mapping, NamedTuple, Optional,
+    Sequence, Tuple, Union,
 )
 
 from .. import _library
@@ -143,12 +143,14 @@ class Condition(NamedTuple):
 class Texts:
     """The texts that conditions compare, each with its number."""
 
-    def __init__(self) -> None:
+    def __init__(self, is_open: Callable[[str], bool]) -> None:
+        """`is_open` tells whether a text may be set on a platform that has no such fact."""
         self.numbers: Dict[str, int] = {}
         self.names: List[str] = []
         # The answer to each text on a platform that has no fact: unknown, if a flag may set it.
         self.without_facts = bytearray()
         self._forms: Dict[str, str] = {}
+        self._is_open = is_open
 
     def compiled(self, condition: str) -> Condition:
         """Returns what the engine is asked for a condition. Raises `CargoError` if it is none, for
@@ -183,7 +185,7 @@ class Texts:
         number = self.numbers.setdefault(text, len(self.names))
         if number == len(self.names):
             self.names.append(text)
-            self.without_facts.append(UNKNOWN if may_be_set(text) else FALSE)
+            self.without_facts.append(UNKNOWN if self._is_open(text) else FALSE)
         return number
 
     def names_of(self, numbers: Iterable[int]) -> Tuple[str, ...]:
@@ -236,11 +238,13 @@ def groups_of(texts: Texts, platforms: Sequence[Platform]) -> List[Alike]:
 
 def values_of(
     conditions: Iterable[Optional[str]], platforms: Sequence[Platform],
-    budget: Optional[Budget] = None,
+    budget: Optional[Budget] = None, is_open: Callable[[str], bool] = may_be_set,
 ) -> Dict[Optional[str], Values]:
     """Returns the values of conditions on platforms. A condition is one in `cfg( )`, a triple, or
-    `None`, which is true. The budget is for the values that are unknown to the engine."""
-    texts, distinct = Texts(), dict.fromkeys(conditions)
+    `None`, which is true. The budget is for the values that are unknown to the engine. `is_open`
+    tells whether a text may be set on a platform where other flags may be and that has no such
+    fact."""
+    texts, distinct = Texts(is_open), dict.fromkeys(conditions)
     compiled = {
         one: texts.compiled(one) for one in distinct if one is not None and one.startswith("cfg(")
     }

@@ -3,7 +3,7 @@ import os
 import re
 from typing import Iterable, Iterator, List, Mapping, Optional, Tuple
 
-from . import _files
+from .. import _files
 from ._errors import RequestError
 
 KEY = r"(?:r#)?([A-Za-z_][A-Za-z0-9_]*)"

@@ -2,9 +2,11 @@
 import json
 from typing import Any, Iterable, Iterator, Mapping, Optional, Sequence
 
+from .._terminal import shown
+from ._cargo import Dependency
 from ._conditions import Fault, Unknown, groups_in
-from ._errors import shown
 from ._once import Once
+from ._platforms import Platform
 from ._report import Report, Row, Value
 from ._summary import Summary, summary_of
 from ._table import COUNTED
@@ -12,20 +14,26 @@ from ._table import COUNTED
 # The version of the form of the JSON. A later one may have more members.
 VERSION = 1
 TRUTH = {True: "true", False: "false"}
+YES_OR_NO = {True: "yes", False: "no"}
+# The columns of TSV behind the condition.
+DETAILS = ("package_version", "package_manifest", "requirement", "source", "location",
+           "default_features", "features")
 
 
 def json_of(report: Report, is_summary: bool) -> Iterator[str]:
     """Yields the lines of one object of JSON, which is ASCII."""
-    platforms = [
-        json.dumps({"name": one.name, "triple": one.triple, "host": one.is_host})
-        for one in report.platforms
-    ]
     yield f'{{"version": {VERSION},'
     yield f'"manifest": {json.dumps(report.manifest_path)},'
-    yield from list_of("platforms", platforms)
+    yield from list_of("platforms", platform_list(report.platforms))
     yield from list_of("dependencies", map(Entries(report, is_summary).entry, report.rows))
     yield f'"tried": {json.dumps(report.is_tried)},'
     yield f'"notes": {json.dumps(report.notes)}}}'
+
+
+def platform_list(platforms: Iterable[Platform]) -> Iterator[str]:
+    """Yields the objects of platforms."""
+    for one in platforms:
+        yield json.dumps({"name": one.name, "triple": one.triple, "host": one.is_host})
 
 
 def list_of(name: str, items: Iterable[str]) -> Iterator[str]:
@@ -57,8 +65,12 @@ class Entries:
         """Returns the object of a row."""
         one = row.dependency
         front = members(
-            package=one.package, name=one.name, renamed_from=one.renamed_from, kind=one.kind,
-            optional=one.is_optional, condition=one.condition,
+            package=one.package, package_version=one.package_version,
+            package_manifest=one.package_manifest, name=one.name, renamed_from=one.renamed_from,
+            kind=one.kind, optional=one.is_optional, requirement=one.requirement,
+            source=one.source.kind, location=one.source.location,
+            default_features=one.uses_default_features, features=one.features,
+            condition=one.condition,
         )
         never, tried = TRUTH[row.is_never], TRUTH[row.is_tried]
         return (
@@ -115,7 +127,7 @@ def tsv_of(report: Report, is_summary: bool) -> Iterator[str]:
     names = [platform.name for platform in report.platforms]
     if is_summary:
         names = [value.value for value in COUNTED] + ["never"]
-    yield tabbed("package", "dependency", "kind", "optional", *names, "condition")
+    yield tabbed("package", "dependency", "kind", "optional", *names, "condition", *DETAILS)
 
     def counted(values: Sequence[Value]) -> str:
         counts = summary_of(values, report.platforms).counts
@@ -127,9 +139,18 @@ def tsv_of(report: Report, is_summary: bool) -> Iterator[str]:
     cells = Once(counted if is_summary else listed)
     for row in report.rows:
         one = row.dependency
-        front = tabbed(one.package, one.name, one.kind, "yes" if one.is_optional else "no")
-        never = ["yes" if row.is_never else "no"] if is_summary else []
-        yield "\t".join([front, cells(row.values), *never, shown(one.condition or "")])
+        front = tabbed(one.package, one.name, one.kind, YES_OR_NO[one.is_optional])
+        never = [YES_OR_NO[row.is_never]] if is_summary else []
+        end = tabbed(one.condition or "", *details_of(one))
+        yield "\t".join([front, cells(row.values), *never, end])
+
+
+def details_of(one: Dependency) -> Sequence[str]:
+    """Returns the cells of a dependency behind its condition."""
+    return (
+        one.package_version, one.package_manifest, one.requirement, *one.source,
+        YES_OR_NO[one.uses_default_features], ",".join(one.features),
+    )
 
 
 def tabbed(*cells: str) -> str:

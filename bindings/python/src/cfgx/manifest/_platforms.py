@@ -3,13 +3,16 @@ import codecs
 import dataclasses
 import io
 import os
-from typing import FrozenSet, Iterable, List, Mapping, Optional, Sequence, Tuple, Union
+from concurrent import futures
+from typing import (
+    Callable, FrozenSet, Iterable, List, Mapping, Optional, Sequence, Tuple, Union,
+)
 
 import cfgx
 
-from .. import _process
+from .. import _files, _process
 from .._facts import lines_of
-from . import _cargo, _files, _flags
+from . import _cargo, _flags
 from ._errors import CompilerError, FactsError, RequestError
 
 # The names that stand for all targets and for the host.
@@ -55,6 +58,14 @@ class Flags:
         return frozenset([*named, *_flags.divided(self.rustflags)[0]])
 
 
+# What is called with the number of targets of which a compiler was asked, and with that of all.
+Progress = Callable[[int, int], None]
+
+
+def no_progress(done: int, count: int) -> None:
+    """Does nothing."""
+
+
 class Table:
     """The facts in the package's own table of targets."""
 
@@ -74,6 +85,10 @@ class Table:
         """Returns the triples of all targets."""
         return cfgx.targets()
 
+    def each(self, triples: Sequence[str]) -> Iterable[Iterable[str]]:
+        """Returns the facts of targets with flags. Raises `RequestError`."""
+        return (self.lines(triple, True) for triple in triples)
+
     def lines(self, triple: str, is_with_flags: bool) -> Iterable[str]:
         """Returns the facts of a target. Raises `RequestError` if the table does not have it."""
         try:
@@ -86,8 +101,11 @@ class Table:
 class Compiler:
     """The facts that a compiler prints: `$RUSTC`, or the `rustc` on the path."""
 
-    def __init__(self, flags: Flags, environment: Mapping[str, str]) -> None:
+    def __init__(
+        self, flags: Flags, environment: Mapping[str, str], progress: Progress = no_progress
+    ) -> None:
         self._flags = flags
+        self._progress = progress
         named = environment.get("RUSTC") or "rustc"
         # The process starts in another folder.
         self._program = os.path.abspath(named) if os.path.dirname(named) else named
@@ -102,6 +120,21 @@ class Compiler:
     def targets(self) -> Sequence[str]:
         """Returns the triples of all targets that the compiler knows."""
         return self._printed("--print", "target-list")
+
+    def each(self, triples: Sequence[str]) -> Iterable[Iterable[str]]:
+        """Returns the facts of targets with flags. As many compilers run at once as there are
+        processors. Raises the `CompilerError` of the first target that has one."""
+        found = []
+        with futures.ThreadPoolExecutor(_process.processors()) as pool:
+            waiting = [pool.submit(self.lines, triple, True) for triple in triples]
+            try:
+                for one in waiting:
+                    found.append(one.result())
+                    self._progress(len(found), len(waiting))
+            finally:
+                for one in waiting:
+                    one.cancel()
+        return found
 
     def lines(self, triple: str, is_with_flags: bool) -> Iterable[str]:
         """Returns the facts of a target. Raises `CompilerError`."""
@@ -123,6 +156,17 @@ class Compiler:
 
 
 Source = Union[Table, Compiler]
+
+
+def source_of(
+    flags: Flags, environment: Mapping[str, str], asks_rustc: bool, cargo_timeout: float,
+    progress: Optional[Progress] = None,
+) -> Source:
+    """Returns what says the facts: the compiler if it is asked, and else the table. Raises
+    `RequestError`."""
+    if asks_rustc:
+        return Compiler(flags, environment, progress or no_progress)
+    return Table(flags, cargo_timeout)
 
 
 def facts_in(lines: Iterable[str], where: str) -> FrozenSet[str]:
@@ -180,13 +224,12 @@ def platforms_of(
     on_host = facts_in(lines_on_host(source, host, read, is_alone), host)
     if is_alone:
         return [platform(HOST, host, on_host | texts, flags.has_others)]
-    platforms = [platform(HOST, host, on_host, False)]
-    for triple in dict.fromkeys([*named, *read]):
-        lines = read[triple] if triple in read else source.lines(triple, True)
-        platforms.append(
-            platform(triple, triple, facts_in(lines, triple) | texts, flags.has_others)
-        )
-    return platforms
+    asked = [triple for triple in dict.fromkeys(named) if triple not in read]
+    lines_of = {**dict(zip(asked, source.each(asked))), **read}
+    return [platform(HOST, host, on_host, False), *(
+        platform(triple, triple, facts_in(lines_of[triple], triple) | texts, flags.has_others)
+        for triple in dict.fromkeys([*named, *read])
+    )]
 
 
 def lines_in(lines: Iterable[str]) -> List[str]:

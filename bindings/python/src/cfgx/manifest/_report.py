@@ -4,11 +4,12 @@ import enum
 import os
 from typing import Dict, Iterable, List, Mapping, Optional, Sequence, Tuple
 
+from .. import _renamed
 from . import _cargo, _flags, _platforms
 from ._cargo import Dependency, Package
 from ._conditions import Fault, Reasons, Unknown, Values, values_of
 from ._errors import RequestError
-from ._platforms import Flags, Platform
+from ._platforms import Flags, Platform, Progress
 from ._units import Sides, Units
 
 
@@ -25,9 +26,24 @@ class Value(enum.Enum):
     """Cargo builds nothing there that uses the dependency."""
 
 
+def has_unknown(values: Sequence[Value]) -> bool:
+    """Whether a value is unknown."""
+    return Value.UNKNOWN in values
+
+
+def differ(values: Sequence[Value]) -> bool:
+    """Whether there are several values, where Cargo reads the dependency."""
+    return len(set(values) - {Value.NOT_READ}) > 1
+
+
 VALUES = {True: Value.YES, False: Value.NO, None: Value.UNKNOWN}
 # The variable of the environment that stands for `build.target` of a configuration file.
 BUILD_TARGET = "CARGO_BUILD_TARGET"
+# The old names of parameters.
+RENAMED = {
+    "is_workspace": ("workspace", _renamed.same), "flags": ("cfg", _renamed.same),
+    "has_other_flags": ("no_other_cfg", _renamed.opposite), "asks_rustc": ("rustc", _renamed.same),
+}
 
 
 @dataclasses.dataclass(frozen=True)
@@ -47,6 +63,21 @@ class Row:
     is_tried: bool = True
     """Whether each unknown value was tried out. If not, it may be known after all, since a report
     tries a bounded number of answers to flags."""
+
+    @property
+    def is_conditional(self) -> bool:
+        """Whether the dependency has a condition."""
+        return self.dependency.condition is not None
+
+    @property
+    def is_differing(self) -> bool:
+        """Whether it has several values on the platforms where Cargo reads it."""
+        return differ(self.values)
+
+    @property
+    def is_unknown(self) -> bool:
+        """Whether a value is unknown."""
+        return has_unknown(self.values)
 
 
 @dataclasses.dataclass(frozen=True)
@@ -68,14 +99,15 @@ class Report:
         return all(row.is_tried for row in self.rows)
 
 
+@_renamed.parameters(**RENAMED)
 def report(
     manifest: Optional[str] = None, targets: Sequence[str] = (), *,
-    packages: Sequence[str] = (), is_workspace: bool = False,
+    packages: Sequence[str] = (), workspace: bool = False, exclude: Sequence[str] = (),
     kinds: Sequence[str] = _cargo.KINDS, facts: Optional[Mapping[str, Iterable[str]]] = None,
-    flags: Sequence[str] = (), has_other_flags: bool = True,
-    rustflags: Optional[Sequence[str]] = None, asks_rustc: bool = False,
+    cfg: Sequence[str] = (), no_other_cfg: bool = False,
+    rustflags: Optional[Sequence[str]] = None, rustc: bool = False,
     host: Optional[str] = None, environment: Optional[Mapping[str, str]] = None,
-    cargo_timeout: float = _cargo.TIMEOUT,
+    cargo_timeout: float = _cargo.TIMEOUT, progress: Optional[Progress] = None,
 ) -> Report:
     """Returns which dependencies of a manifest Cargo takes, on the host and on targets.
 
@@ -83,36 +115,37 @@ def report(
       `Cargo.toml` in the current folder or above it.
     - `targets` are triples, `host-tuple`, or `all`, which stands for each target of the package's
       table. If there is neither a target nor one in `facts`, everything is built for the host.
-    - `packages` are names of packages of the workspace. `is_workspace` stands for all of them.
-      Without both, it is the package of the manifest, or all if it has none.
+    - `packages` are names of packages of the workspace. `workspace` stands for all of them but
+      those in `exclude`. Without both, it is the package of the manifest, or all if it has none.
     - `kinds` are those of the dependencies: `normal`, `dev` and `build`.
     - `facts` are more targets: by triple, the lines that rustc prints, or a text of them.
-    - `flags` are set, as `rustc --cfg` takes them. `has_other_flags` is whether others may be.
+    - `cfg` are flags that are set, as `rustc --cfg` takes them. `no_other_cfg` is whether no other
+      flag is set.
     - `rustflags` are the arguments of rustc in `RUSTFLAGS`, divided.
-    - `asks_rustc` lets `$RUSTC`, or the `rustc` on the path, say the facts.
-    - `host` is a triple. Without one, `cargo -vV` names it, or `rustc -vV` with `asks_rustc`.
+    - `rustc` lets `$RUSTC`, or the `rustc` on the path, say the facts. As many run at once as there
+      are processors.
+    - `host` is a triple. Without one, `cargo -vV` names it, or `rustc -vV` with `rustc`.
     - `environment` has the variables that Cargo reads, if not those of the process.
     - `cargo_timeout` is how long to wait for each run of `cargo`, in seconds.
+    - `progress` is called with the number of targets of which `rustc` was asked so far, and with
+      that of all of them.
 
-    The manifest is a regular file of at most a megabyte, and so is each other file that is read.
+    A parameter has the name of an option of the command. The manifest is a regular file of at most a megabyte, and so is each other file that is read.
     The values that are unknown to the engine share a budget: beyond it, `is_tried` is false.
 
     Raises a `ManifestError`, or `TypeError` if a text stands for a list.
     """
-    expect_lists(targets, packages, kinds, flags, rustflags or ())
+    expect_lists(targets, packages, exclude, kinds, cfg, rustflags or ())
     expect_kinds(kinds)
     _cargo.expect_time(cargo_timeout)
     variables = os.environ if environment is None else environment
-    known = Flags(tuple(flags), tuple(rustflags or ()), has_other_flags)
-    source: _platforms.Source = (
-        _platforms.Compiler(known, variables) if asks_rustc
-        else _platforms.Table(known, cargo_timeout)
-    )
+    flags = Flags(tuple(cfg), tuple(rustflags or ()), not no_other_cfg)
+    source = _platforms.source_of(flags, variables, rustc, cargo_timeout, progress)
     path = _cargo.manifest_at(manifest)
-    workspace = _cargo.workspace_of(path, cargo_timeout)
-    chosen = workspace.chosen(packages, is_workspace)
-    platforms = _platforms.platforms_of(source, targets, facts or {}, known, host)
-    rows = rows_of(workspace.packages, chosen, kinds, platforms)
+    listed = _cargo.workspace_of(path, cargo_timeout)
+    chosen = listed.chosen(packages, workspace, exclude)
+    platforms = _platforms.platforms_of(source, targets, facts or {}, flags, host)
+    rows = rows_of(listed.packages, chosen, kinds, platforms)
     notes = notes_on(path, rustflags, variables, has_target=len(platforms) > 1)
     return Report(path, tuple(platforms), tuple(rows), tuple(notes))
 

@@ -2,21 +2,22 @@
 import collections
 import itertools
 from typing import (
-    Callable, Dict, Iterable, Iterator, List, NamedTuple, Optional, Sequence, Tuple,
+    Callable, Dict, Iterable, Iterator, List, Mapping, NamedTuple, Optional, Sequence, Tuple,
 )
 
+from .._terminal import CUT, Colour, cells_of, cut, padded, shown, wrapped
 from ._conditions import Unknown, groups_in
-from ._errors import shown
 from ._once import Once
 from ._report import Report, Row, Value
 from ._summary import MOST_NAMED, Summary, summary_of
 
 GAP = "  "
-CUT = ".."
 # The least width of a condition that is cut.
 LEAST = 24
 # The values that a summary counts.
 COUNTED = (Value.YES, Value.NO, Value.UNKNOWN)
+# The colours of cells by their first words.
+COLOURS = {"yes": Colour.GREEN, "no": Colour.RED, "unknown": Colour.YELLOW}
 EXPLANATION = "unknown: flags that RUSTFLAGS may set (see --cfg and --no-other-cfg)"
 NOT_TRIED = "not tried out, since a report tries a bounded number of answers"
 # The cells of a column, from the head on.
@@ -36,17 +37,19 @@ def full_name_of(row: Row) -> str:
     return f"{row.dependency.package} {name_of(row)}"
 
 
-def table_of(report: Report, width: Optional[int]) -> Iterator[str]:
+def table_of(
+    report: Report, width: Optional[int], left_out: int = 0, is_coloured: bool = False
+) -> Iterator[str]:
     """Yields the lines of a table with a column for each platform. Without a width, no line is cut
-    and no column moves below the others."""
+    and no column moves below the others. `left_out` is how many rows the report leaves out."""
     heads = [shown(platform.name) for platform in report.platforms]
     grid = Grid(fronts_of(report), heads, cells_by(report, value_cells), conditions_of(report))
     if width is not None and len(blocks_of(grid, width)) > 1:
         numbers = list(map(str, range(1, len(heads))))
         yield from map(": ".join, zip(numbers, heads[1:]))
         grid = grid._replace(heads=[heads[0], *numbers])
-    yield from lines_of(grid, width)
-    yield from ends_of(report, width)
+    yield from lines_of(grid, width, is_coloured)
+    yield from ends_of(report, width, left_out)
 
 
 def value_cells(values: Sequence[Value]) -> Sequence[str]:
@@ -54,7 +57,9 @@ def value_cells(values: Sequence[Value]) -> Sequence[str]:
     return [value.value for value in values]
 
 
-def summary_table_of(report: Report, width: Optional[int]) -> Iterator[str]:
+def summary_table_of(
+    report: Report, width: Optional[int], left_out: int = 0, is_coloured: bool = False
+) -> Iterator[str]:
     """Yields the lines of a table with the number of platforms that have each value. If it exceeds
     the width, the smaller groups are a table of their own, below the numbers."""
     def summarized(values: Sequence[Value]) -> Summary:
@@ -70,17 +75,22 @@ def summary_table_of(report: Report, width: Optional[int]) -> Iterator[str]:
     counts = Grid(fronts_of(report), heads, cells_by(report, numbers_of), conditions_of(report))
     whole = with_column(counts, groups)
     if width is None or len(blocks_of(whole, width)) == 1:
-        yield from lines_of(whole, width)
+        yield from lines_of(whole, width, is_coloured)
     else:
         yield from lines_of(counts, width)
         yield from lines_of(Grid(counts.fronts, [], [[]] * len(report.rows), groups), width)
-    yield from ends_of(report, width)
+    yield from ends_of(report, width, left_out)
 
 
 def smaller_group_of(row: Row, summary: Summary) -> str:
     """Returns the cell with the value of the smaller group, and the names of its platforms."""
-    if row.is_never or summary.smaller is None:
-        return "never" if row.is_never else ""
+    return smaller_group(summary, row.is_never)
+
+
+def smaller_group(summary: Summary, is_never: bool) -> str:
+    """Returns the value of the smaller group and the names of its platforms, or `never`."""
+    if is_never or summary.smaller is None:
+        return "never" if is_never else ""
     more = [CUT] if summary.counts[summary.smaller] > MOST_NAMED else []
     return shown(f"{summary.smaller.value}: {', '.join([*summary.names, *more])}")
 
@@ -132,8 +142,8 @@ def conditions_of(report: Report) -> Column:
 
 
 def width_of(column: Iterable[str]) -> int:
-    """Returns the width of a column and of the gap behind it."""
-    return max(map(len, column)) + len(GAP)
+    """Returns how many cells of a terminal a column takes, with the gap behind it."""
+    return max(map(cells_of, column)) + len(GAP)
 
 
 def widths_in(grid: Grid) -> List[int]:
@@ -156,38 +166,42 @@ def blocks_of(grid: Grid, width: int) -> List[slice]:
     return blocks
 
 
-def lines_of(grid: Grid, width: Optional[int]) -> Iterator[str]:
+def lines_of(grid: Grid, width: Optional[int], is_coloured: bool = False) -> Iterator[str]:
     """Yields the lines of columns, and an empty line. If they exceed a width, the columns come in
-    blocks, and the last one is cut."""
+    blocks, and the last one is cut. Values below the heads may be coloured."""
     whole = [slice(0, len(grid.heads))]
     for block in whole if width is None else blocks_of(grid, width):
-        yield from block_lines(grid, block, width)
+        yield from block_lines(grid, block, width, COLOURS if is_coloured else {})
 
 
-def block_lines(grid: Grid, block: slice, width: Optional[int]) -> Iterator[str]:
+def block_lines(
+    grid: Grid, block: slice, width: Optional[int], colours: Mapping[str, Colour]
+) -> Iterator[str]:
     """Yields the lines of a block of columns, and an empty line."""
     fronts, widths = [width_of(column) for column in grid.fronts], widths_in(grid)[block]
     room = None if width is None else max(width - sum(fronts) - sum(widths), LEAST - len(GAP))
 
-    def padded(cells: Sequence[str]) -> str:
-        return "".join(map(str.ljust, cells[block], widths))
+    def joined(cells: Sequence[str]) -> str:
+        known = {} if cells is grid.heads else colours
+        return "".join(padded(cell, size, known.get(cell.partition(" ")[0]))
+                       for cell, size in zip(cells[block], widths))
 
-    middle = Once(padded)
+    middle = Once(joined)
     for front, cells, end in zip(zip(*grid.fronts), [grid.heads, *grid.cells], grid.last):
-        yield "".join([*map(str.ljust, front, fronts), middle(cells), cut(end, room)]).rstrip()
+        yield "".join([*map(padded, front, fronts), middle(cells), cut(end, room)]).rstrip()
     yield ""
 
 
-def cut(text: str, room: Optional[int]) -> str:
-    """Returns a text, cut to the room that there is."""
-    return text if room is None or len(text) <= room else text[:room - len(CUT)] + CUT
+def width_below(width: Optional[int]) -> Optional[int]:
+    """Returns the width for lines below a table."""
+    return None if width is None else max(width, LEAST)
 
 
-def ends_of(report: Report, width: Optional[int]) -> Iterator[str]:
+def ends_of(report: Report, width: Optional[int], left_out: int) -> Iterator[str]:
     """Yields the lines below a table."""
     for line in explained(report):
-        yield cut(line, None if width is None else max(width, LEAST))
-    yield counted(report)
+        yield from wrapped(line, width_below(width))
+    yield counted(report, left_out)
 
 
 def explained(report: Report) -> Iterator[str]:
@@ -245,20 +259,22 @@ def spelled(given: Dict[str, bool]) -> str:
     return " and ".join(flag if is_set else f"not({flag})" for flag, is_set in given.items())
 
 
-def counted(report: Report) -> str:
+def counted(report: Report, left_out: int = 0) -> str:
     """Returns a line with the host and the number of rows by their values, and with the number of
     those that were not tried out, if there are some."""
     groups = collections.Counter(map(Once(group_of), (row.values for row in report.rows)))
     order = ("yes", "no", "yes or no", "unknown", "not read")
     counts = [f"{groups[name]} {name}" for name in order if groups[name] > 0]
     host, left = shown(report.platforms[0].triple), sum(not row.is_tried for row in report.rows)
-    end = f"; {rows_of(left)} not tried out" if left > 0 else ""
-    return f"host {host}; {rows_of(len(report.rows))}: {', '.join(counts) or 'none'}{end}"
+    end = f"; {number_of(left, 0, 'row')} not tried out" if left > 0 else ""
+    rows = number_of(len(report.rows), left_out, "row")
+    return f"host {host}; {rows}: {', '.join(counts) or 'none'}{end}"
 
 
-def rows_of(count: int) -> str:
-    """Returns a number of rows."""
-    return "1 row" if count == 1 else f"{count} rows"
+def number_of(count: int, left_out: int, name: str) -> str:
+    """Returns how many things with a name there are, and of how many if some are left out."""
+    many = name if count + left_out == 1 else f"{name}s"
+    return f"{count} of {count + left_out} {many}" if left_out else f"{count} {many}"
 
 
 def group_of(values: Sequence[Value]) -> str:

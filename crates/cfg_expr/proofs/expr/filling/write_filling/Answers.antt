@@ -1,6 +1,6 @@
 -- The next answer is written, and in the end none is left.
 use Rattle.std.proofs.Common.{◌∙◌, ◌∷◌, ◌++◌, [], arith, append-nil, append_assoc, ap, drop}
-use Rattle.std.proofs.Common.{◌≡◌, ◌<◌, length, sym, unwrap_or}
+use Rattle.std.proofs.Common.{◌≡◌, ◌<◌, length, sym}
 use Rattle.std.proofs.lemmas.Grind.{common_steps}
 use Rattle.std.proofs.lemmas.List.{length-append, nil_from_length}
 use Rattle.std.proofs.Math.Seq.{drop-length}
@@ -17,7 +17,7 @@ loop-place-preserved c =
     let steps = c.in-Some.ensures.steps in grind (arith, common_steps) in
     let answer : answers ≡ c.in-Some.answer.now ∷ c.next.new.self.b.rest.now =
     let steps = c.in-Some.ensures.steps in grind (arith, common_steps) in
-    let truth = unwrap_or c.in-Some.answer.now c.turned.result in
+    let truth = c.filled.result in
     let inside : c.loop-place.written < length c.args.buffer.now =
     omega (arith, so_far.room, ap length place) in
     record {
@@ -26,9 +26,9 @@ loop-place-preserved c =
       room = omega (arith, so_far.room, ap length place);
       front = so_far.front ++ truth ∷ [];
       whole = append_assoc so_far.front (truth ∷ []) _
-          ∙ rw c.turned.ensures (rw (place, answer) at so_far.whole);
+          ∙ rw c.filled.ensures (rw (place, answer) at so_far.whole);
       written_is = omega (arith, so_far.written_is, length-append so_far.front (truth ∷ []));
-      shown = rw (c.truth_byte.ensures, c.unwrap_or.ensures) (written_next truth_byte so_far.front
+      shown = rw c.truth_byte.ensures (written_next truth_byte so_far.front
           truth c.args.buffer.now c.loop-place.buffer c.loop-place.written so_far.written_is inside
           so_far.shown);
     }

@@ -1,19 +1,19 @@
--- The nodes are those of the text's one tree, and the predicates among them ask what it asks.
+-- The located predicates ask what the text's one tree asks.
 use Rattle.std.{proofs.Common.{◌∙◌, subst, sym}, specs.List.AllByRecursion}
 use Rattle.cfgx_grammar.{specs.WellFormed.IsWellFormed, proofs.alone.well_formed_tree}
-use Rattle.cfg_expr.proofs.AskedPredicates.{NamePredicates-kept, questions_at-kept}
+use Rattle.cfg_expr.proofs.Located.{asks-located, cuts-located}
 use Rattle.cfg_expr.proofs.expr.condition.Condition.predicates.Goals as goal
 
 pub new-requires : goal.new-requires
-new-requires c = NamePredicates-kept c.self.invariant.keeps
+new-requires c = rw c.self.view_is (cuts-located _ _ _ c.located_predicates.ensures.each)
 
 -- what a text asks can stand in a text
 pub returns : goal.returns
 returns c =
-    let keeps = rw c.self.view_is at c.self.invariant in
-    let asks = c.new.ensures ∙ rw c.self.view_is (questions_at-kept keeps.keeps) in
+    let located = c.located_predicates.ensures in
+    let asks = c.new.ensures ∙ rw c.self.view_is (asks-located _ _ _ located.each) in
     record {
-      asked = (keeps.one, asks);
+      asked = (located.one, asks);
       well_formed = subst (AllByRecursion IsWellFormed) (sym asks)
-          (well_formed_tree _ keeps.one.tree keeps.one.reads.has);
+          (well_formed_tree _ located.one.tree located.one.reads.has);
     }

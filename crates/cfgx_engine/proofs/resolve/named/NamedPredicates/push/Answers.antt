@@ -5,16 +5,17 @@ use Rattle.cfgx_engine.proofs.resolve.named.NamedPredicates.push.Goals as goal
 
 pub returns : goal.returns
 returns g c =
-    let texts = c.asked_texts-asked.result in
+    let texts = c.asked_texts-kind.result in
     let named : NamedPredicate = record {
-      asked = texts.asked;
+      kind = texts.kind;
+      number = texts.number;
       start = c.len-start.result;
       key_len = length texts.key.now;
       value_len = length texts.value.now;
     } in
     rw (
       ← c.self.view_is,
-      ← c.asked_texts-asked.ensures,
+      ← c.asked_texts-kind.ensures,
       c.in_ok-push.ensures.items,
       c.in_ok-extend_from_slice-2.ensures.items,
       c.in_ok-extend_from_slice.ensures.items,

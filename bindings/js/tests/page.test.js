@@ -1,0 +1,664 @@
+/** The page, by what it shows in a browser. */
+import assert from "node:assert/strict";
+import { existsSync } from "node:fs";
+import { createServer } from "node:http";
+import { readFile } from "node:fs/promises";
+import { after, afterEach, before, beforeEach, test } from "node:test";
+import { Browser, CHROMIUM } from "./browser.js";
+import { needs } from "./needs.js";
+import { ROOT, hasFamily, read, targetRows } from "./rows.js";
+
+const PAGE = new URL(process.env.CFGX_PAGE ?? "out/cfgx.html", ROOT);
+const missing = needs(CHROMIUM, "the page in a browser") ||
+  (existsSync(PAGE) ? false : `there is no ${PAGE.pathname}`);
+
+const TARGETS = targetRows();
+const isUnix = (target) => hasFamily(target, "unix");
+const isWindows = (target) => hasFamily(target, "windows");
+const isApple = (target) => target.target_vendor === "apple";
+
+/** Returns the triples of the targets for which something holds. */
+function triples(holds) {
+  return TARGETS.filter(holds).map(({ triple }) => triple);
+}
+
+let browser;
+let page;
+
+/** Returns the triples of the cells that show a value, by its number. */
+async function shown(value) {
+  const found = await page.see(`[...document.querySelectorAll('.cell[data-value="${value}"]')]
+    .map((one) => one.dataset.triple)`);
+  return found.sort();
+}
+
+/** Returns the counts in the legend: yes, unknown and no. */
+async function legend() {
+  return (await page.texts(".legend b")).map(Number);
+}
+
+/** Fails unless the picture has these values, which are told by the names of triples. */
+async function checkPicture(yes, unknown = []) {
+  assert.deepEqual(await shown(1), [...yes].sort());
+  assert.deepEqual(await shown(2), [...unknown].sort());
+  assert.deepEqual(await legend(), [yes.length, unknown.length,
+                                    TARGETS.length - yes.length - unknown.length]);
+}
+
+/** Chooses a target by a click. */
+function choose(triple) {
+  return page.click(`.cell[data-triple="${triple}"]`);
+}
+
+/** Sets a switch. */
+async function decide(text, position) {
+  await page.see(`(() => {
+    const legends = [...document.querySelectorAll(".switch legend")];
+    const one = legends.find((legend) => legend.innerText === ${JSON.stringify(text)});
+    one.parentElement.querySelector('[value="${position}"]').dataset.wanted = "";
+  })()`);
+  await page.click("[data-wanted]");
+  await page.see('delete document.querySelector("[data-wanted]").dataset.wanted');
+}
+
+/** Returns the lines of the drawn tree: its depth, its text and its value. */
+function tree() {
+  return page.see(`[...document.querySelectorAll("#why .tree .node")].map((node) => {
+    let depth = 0;
+    for (let one = node.closest("ul"); !one.classList.contains("tree"); one = one.parentElement) {
+      depth += one.tagName === "UL" ? 1 : 0;
+    }
+    return [depth, ...[...node.children].slice(1).map((one) => one.innerText)].join(" ");
+  })`);
+}
+
+/** Returns the rows of the table of fillings. */
+function fillings() {
+  return page.see(`[...document.querySelectorAll(".fillings tbody tr")]
+    .map((row) => [...row.children].map((one) => one.innerText))`);
+}
+
+before(() => {
+  browser = missing ? undefined : new Browser();
+});
+after(() => browser?.close());
+beforeEach(async () => {
+  page = await browser?.open(PAGE.href);
+});
+afterEach(async () => {
+  const complaints = page?.complaints ?? [];
+  await page?.close();
+  assert.deepEqual(complaints, []);
+});
+
+test("the page shows the targets by system and processor", { skip: missing }, async () => {
+  await page.write("unix");
+  const systems = await page.see(`[...document.querySelectorAll(".system")].map((system) => [
+    system.querySelector("h3").innerText,
+    [...system.querySelectorAll(".processor")].map((one) => [
+      one.querySelector("h4").innerText,
+      [...one.querySelectorAll(".cell")].map((cell) => cell.dataset.triple),
+    ]),
+  ])`);
+  const found = systems.flatMap(([system, processors]) => processors.flatMap(([name, list]) => (
+    list.map((triple) => [triple, system, name])
+  )));
+  const wanted = TARGETS.map(({ triple, target_os: system, target_arch: processor }) => (
+    [triple, system === "-" ? "none (bare metal)" : system, processor]
+  ));
+  assert.deepEqual(found.sort(), wanted.sort());
+  assert.equal(new Set(systems.map(([system]) => system)).size, systems.length);
+});
+
+test("the page shows where a condition is true, in cells and counts", { skip: missing }, async () => {
+  await page.write('all(unix, not(target_vendor = "apple"))');
+  await checkPicture(triples((one) => isUnix(one) && !isApple(one)));
+  const counts = await page.see(`[...document.querySelectorAll(".system")].map((system) => [
+    system.querySelector("h3").innerText, system.getAttribute("aria-label"),
+    ...[...system.querySelectorAll(".count")].map((one) => Number(one.innerText)),
+  ])`);
+  for (const [name, label, yes, unknown, no] of counts) {
+    const own = TARGETS.filter((one) => name.startsWith("none") ? one.target_os === "-" :
+      one.target_os === name);
+    const wanted = own.filter((one) => isUnix(one) && !isApple(one)).length;
+    assert.deepEqual([yes, unknown, no], [wanted, 0, own.length - wanted], name);
+    assert.equal(label, `${name}: ${yes} yes, ${no} no, ${unknown} unknown`);
+  }
+  assert.equal(await page.text("#fault"), `True on ${
+    triples((one) => isUnix(one) && !isApple(one)).length} of 320 targets, false on ${
+    triples((one) => !isUnix(one) || isApple(one)).length}.`);
+});
+
+test("the page takes each form in which a condition stands", { skip: missing }, async () => {
+  const forms = ["windows", "cfg(windows)", "  cfg( windows ) ", "#[cfg(windows)]",
+                 "#![cfg(windows)]", "[target.'cfg(windows)'.dependencies]"];
+  for (const form of forms) {
+    await page.write(form);
+    await checkPicture(triples(isWindows));
+  }
+  await page.write(forms.join("\n"));
+  const bars = await page.texts("#list .counts");
+  const yes = triples(isWindows).length;
+  assert.deepEqual(bars, forms.map(() => `${yes} yes · 0 unknown · ${320 - yes} no`));
+});
+
+test("the page underlines a fault where it is, and says what was expected", { skip: missing }, async () => {
+  const rows = [
+    ["all(unix", "(unix", "Column 4: This parenthesis is never closed. Expected: ) at the end."],
+    ["unix)", ")", "Column 5: This parenthesis closes nothing. Expected: as many ( as )."],
+    ['feature = "x', '"x', "This quote is never closed."],
+    ["any(unix, 8)", "8", "Column 11: “8” is not expected here. Expected: a name such as unix,"],
+    ["all(a b)", "b", "Expected: =, a comma or a closing parenthesis."],
+    ["not(a, b)", "not(a, b)", "This not has 2 conditions inside. Expected: one."],
+    ["not()", "not()", "This not has nothing inside. Expected: one condition."],
+    ["feature", "feature", 'Expected: a value, as in feature = "std".'],
+    ["target_os", "target_os", 'Expected: a value, as in target_os = "linux".'],
+    ['target_oss = "x"', "target_oss", "is no key of a target. Expected: target_arch,"],
+    ['unix = "x"', "x", "Expected: no value after this name."],
+    ['target_endian = "middle"', "middle", 'Expected: "big" or "little".'],
+    ['target_pointer_width = "999"', "999", "Expected: a number up to 255."],
+    ['target_has_atomic = "x"', "x", 'Expected: a number of bits, such as "64", or "ptr".'],
+    ["a, b", "a, b", "Several conditions stand side by side. Expected: one."],
+    ["key =", "=", "Something is missing. Expected: a value in quotes"],
+    ['a = "é𝄞" b', "b", "Column 11: “b” is not expected here."],
+    ['#[cfg(all(é, b))]', "é", "Column 11: “é” is not expected here."],
+  ];
+  for (const [text, faulty, words] of rows) {
+    await page.write(text);
+    const underlined = await page.see(`[...document.querySelectorAll("#paint .faulty")]
+      .filter((one) => getComputedStyle(one).textDecorationLine === "underline")
+      .map((one) => one.innerText).join("")`);
+    assert.equal(underlined, faulty, text);
+    const told = await page.text("#fault");
+    assert.ok(told.includes(words), `${text}: ${told}`);
+    assert.equal(await page.see('document.querySelector("#text").ariaInvalid'), "true");
+  }
+  await page.write("unix");
+  assert.equal(await page.see('document.querySelectorAll(".faulty").length'), 0);
+  assert.equal(await page.see('document.querySelector("#text").ariaInvalid'), null);
+});
+
+test("the page paints each character below the one that is typed", { skip: missing }, async () => {
+  for (const text of ['all(a,\tb = "é𝄞日"), ', "any(\n\n  x\n", "é(", '"'.repeat(3)]) {
+    await page.write(text);
+    const painted = await page.see(`[...document.querySelectorAll("#paint .line")]
+      .map((one) => one.textContent.replace("\\u200b", "")).join("\\n")`);
+    assert.equal(painted, text);
+  }
+  const styles = await page.see(`["font", "padding", "lineHeight", "letterSpacing", "tabSize",
+    "whiteSpace", "overflowWrap", "width"].map((name) => ["#paint", "#text"].map((one) => (
+      getComputedStyle(document.querySelector(one))[name])))`);
+  for (const [paint, text] of styles) {
+    assert.equal(paint, text);
+  }
+});
+
+test("the page takes a click into its text", { skip: missing }, async () => {
+  await page.write("any(\n\n  x\n");
+  const { x, y } = await page.see(`(() => {
+    const { left, top } = document.querySelector("#paint .line").getBoundingClientRect();
+    return { x: left + 5, y: top + 5 };
+  })()`);
+  assert.equal(await page.see(`document.elementFromPoint(${x}, ${y}).id`), "text");
+});
+
+test("the page keeps the picture while a fault is typed", { skip: missing }, async () => {
+  await page.write("windows");
+  await page.press("(");
+  await checkPicture(triples(isWindows));
+  assert.equal(await page.see('"stale" in document.querySelector("#picture").dataset'), true);
+  await page.press("Backspace");
+  assert.equal(await page.see('"stale" in document.querySelector("#picture").dataset'), false);
+});
+
+test("the page moves nothing while one types", { skip: missing }, async () => {
+  const places = () => page.see(`["#text", "#fault", "#picture", "#cells", "#switches",
+    "#comparison", "#differences", "#target"]
+    .map((one) => document.querySelector(one).getBoundingClientRect().top)`);
+  await page.write('all(unix, feature = "x")\nunix');
+  await choose("x86_64-unknown-linux-gnu");
+  await page.click("#text");
+  await page.press("End");
+  const start = await places();
+  const typed = [" ", "(", "Backspace", "Backspace", '"', "Backspace", ",", "Backspace", "s",
+                 "Backspace"];
+  for (const key of typed) {
+    await page.press(key);
+    assert.deepEqual(await places(), start, key);
+  }
+});
+
+test("the page tells values apart without colour", { skip: missing }, async () => {
+  await page.write('any(unix, all(windows, feature = "x"))');
+  const forms = await page.see(`[0, 1, 2].map((value) => {
+    const style = getComputedStyle(document.querySelector(\`.cell[data-value="\${value}"]\`),
+                                   "::before");
+    return [style.width, style.borderRadius, style.transform, style.borderTopWidth];
+  })`);
+  for (const form of [0, 1, 2]) {
+    assert.equal(new Set(forms.map((one) => one.join())).size, 3, String(forms[form]));
+  }
+  const names = await page.see(`[...document.querySelectorAll(".cell")].map((one) => (
+    [one.dataset.triple, one.getAttribute("aria-label")]))`);
+  for (const [triple, label] of names) {
+    const target = TARGETS.find((one) => one.triple === triple);
+    const value = isUnix(target) ? "yes" : isWindows(target) ? "unknown" : "no";
+    assert.equal(label, `${triple}: ${value}`);
+  }
+});
+
+test("the page shows a target, its facts and the tree", { skip: missing }, async () => {
+  await page.write('cfg(any(windows, all(target_pointer_width = "64", not(feature = "x"))))');
+  await choose("x86_64-unknown-linux-gnu");
+  assert.equal(await page.text("#why .triple"), "x86_64-unknown-linux-gnu");
+  assert.deepEqual(await tree(), [
+    "0 any unknown", '1 target_family = "windows" no', "1 all unknown",
+    '2 target_pointer_width = "64" yes', "2 not unknown", '3 feature = "x" unknown',
+  ]);
+  assert.deepEqual(await fillings(), [['feature = "x"', "off", "on"]]);
+  assert.deepEqual(await page.texts(".fillings thead th"), ["", "yes if", "no if"]);
+  const facts = await page.see(`[...document.querySelectorAll(".facts dt")].map((one) => (
+    [one.innerText, one.nextElementSibling.innerText]))`);
+  const wanted = { target_os: "linux", target_arch: "x86_64", target_env: "gnu", unix: "yes",
+                   target_feature: "fxsr sse sse2", target_abi: "(empty)", panic: "unwind" };
+  for (const [key, values] of Object.entries(wanted)) {
+    assert.deepEqual(facts.filter(([name]) => name === key), [[key, values]]);
+  }
+  await choose("x86_64-pc-windows-msvc");
+  assert.match(await page.text(".verdict"), /^yes for any\(windows,/);
+  assert.equal((await tree())[0], "0 any yes");
+  assert.deepEqual(await fillings(), []);
+  await page.click("#close");
+  assert.match(await page.text("#why"), /^Choose a cell, /);
+});
+
+test("the page shows the two fillings of what is unknown", { skip: missing }, async () => {
+  await page.write('all(a, not(any(b, feature = "x")), unix, any(a, c))');
+  await choose("x86_64-unknown-linux-gnu");
+  const rows = new Map((await fillings()).map(([text, yes, no]) => [text, [yes, no]]));
+  assert.deepEqual([...rows.keys()].sort(), ["a", "b", "c", 'feature = "x"']);
+  // It is true only with a, and without b and x. With a, it does not matter whether c is set.
+  assert.deepEqual(["a", "b", 'feature = "x"', "c"].map((text) => rows.get(text)[0]),
+                   ["on", "off", "off", "either"]);
+  for (const at of [0, 1]) {
+    const position = (text) => rows.get(text)[at] === "on";
+    const value = position("a") && !(position("b") || position('feature = "x"'));
+    assert.equal(value, at === 0);
+  }
+});
+
+test("the page gives equal predicates one value", { skip: missing }, async () => {
+  await page.write('all(feature = "x", not(feature = "x"))');
+  await checkPicture([]);
+  await page.write('any(feature = "x", not(feature = "x"))');
+  await checkPicture(triples(() => true));
+  await choose("x86_64-unknown-linux-gnu");
+  assert.match(await page.text("#why"), /However the switches are set, it is yes\./);
+  await page.write("any(all(a, not(b)), all(not(a), b), all(a, b), all(not(a), not(b)), windows)");
+  await checkPicture(triples(() => true));
+  await page.write("any(all(a, not(b)), all(not(a), b), all(a, b), windows)");
+  await checkPicture(triples(isWindows), triples((one) => !isWindows(one)));
+  const rows = new Map((await fillings()).map(([text, ...answers]) => [text, answers]));
+  assert.deepEqual([rows.get("a")[1], rows.get("b")[1]], ["off", "off"]);
+});
+
+test("the page is led by the keyboard", { skip: missing }, async () => {
+  await page.write("unix");
+  let steps = 0;
+  const isCell = () => page.see('document.activeElement.classList.contains("cell")');
+  while (!await isCell()) {
+    await page.press("Tab");
+    steps += 1;
+    assert.ok(steps < 30);
+  }
+  const order = await page.see(`[...document.querySelectorAll(".cell")]
+    .map((one) => one.dataset.triple)`);
+  const current = () => page.see("document.activeElement.dataset.triple");
+  assert.equal(await current(), order[0]);
+  const style = await page.see(`(() => {
+    const { outlineStyle, outlineWidth } = getComputedStyle(document.activeElement);
+    return [outlineStyle, Number.parseFloat(outlineWidth)];
+  })()`);
+  assert.ok(style[0] === "solid" && style[1] >= 2, String(style));
+  const moves = [["ArrowRight", 1], ["ArrowRight", 2], ["ArrowLeft", 1], ["End", 319],
+                 ["ArrowRight", 319], ["Home", 0], ["ArrowLeft", 0]];
+  for (const [key, at] of moves) {
+    await page.press(key);
+    assert.equal(await current(), order[at], key);
+  }
+  const top = () => page.see("document.activeElement.getBoundingClientRect().top + scrollY");
+  const first = await top();
+  await page.press("ArrowDown");
+  const second = await top();
+  assert.ok(second > first);
+  assert.equal(await page.text("#why .triple"), await current());
+  await page.press("ArrowUp");
+  assert.ok(await top() < second);
+  // One key leaves all cells.
+  await page.press("Tab");
+  assert.equal(await isCell(), false);
+});
+
+test("the page decides by switches", { skip: missing }, async () => {
+  await page.write('any(windows, all(unix, feature = "x"), test)\nall(loom, unix)');
+  await page.click("#list li:first-child button");
+  assert.deepEqual((await page.texts(".switch legend")).sort(), ['feature = "x"', "loom", "test"]);
+  const others = triples((one) => !isWindows(one));
+  await checkPicture(triples(isWindows), others);
+  await decide("test", "off");
+  await checkPicture(triples(isWindows), triples(isUnix).filter((one) => others.includes(one)));
+  await decide('feature = "x"', "on");
+  await checkPicture(triples((one) => isWindows(one) || isUnix(one)));
+  await decide('feature = "x"', "off");
+  await checkPicture(triples(isWindows));
+  await decide("test", "on");
+  await checkPicture(triples(() => true));
+  await decide("test", "unknown");
+  await checkPicture(triples(isWindows), others);
+  assert.match((await page.texts("#list .counts"))[1], /^0 yes · \d+ unknown/);
+  await decide("loom", "on");
+  assert.equal((await page.texts("#list .counts"))[1],
+               `${triples(isUnix).length} yes · 0 unknown · ${320 - triples(isUnix).length} no`);
+});
+
+test("the page has switches for what some targets leave unknown, and for nothing else", { skip: missing }, async () => {
+  await page.write('all(target_os = "linux", target_feature = "sse2", debug_assertions)');
+  assert.deepEqual(await page.texts(".switch legend"), ['target_feature = "sse2"']);
+  const has = (one) => one.target_os === "linux" && one.debug_assertions === "yes";
+  const sse2 = (one) => one.target_feature.split(" ").includes("sse2");
+  await checkPicture(triples((one) => has(one) && sse2(one)),
+                     triples((one) => has(one) && !sse2(one)));
+  await decide('target_feature = "sse2"', "off");
+  await checkPicture(triples((one) => has(one) && sse2(one)));
+});
+
+/** Returns what the comparison of two conditions says: the counts, and the sentences. */
+function told() {
+  return page.texts("#comparison li");
+}
+
+test("the page compares two conditions", { skip: missing }, async () => {
+  await page.write('target_os = "macos"\ntarget_vendor = "apple"');
+  const macos = triples((one) => one.target_os === "macos");
+  const apple = triples(isApple);
+  const [counts, forth, back] = await told();
+  const apart = apple.length - macos.length;
+  assert.equal(counts, `Their values differ on ${apart} targets, and are the same on ${
+    320 - apart}.`);
+  assert.equal(forth, "1 implies 2: on every target, whatever the switches say.");
+  const wanted = /^2 implies 1: not on every target\. On (\S+), 2 is yes and 1 is no\.$/;
+  const [, triple] = wanted.exec(back);
+  assert.ok(apple.includes(triple) && !macos.includes(triple), triple);
+  await page.click(`#comparison [data-triple="${triple}"]`);
+  assert.equal(await page.text("#why .triple"), triple);
+  await page.click("#differences");
+  await checkPicture(apple.filter((one) => !macos.includes(one)));
+  assert.deepEqual(await page.texts(".legend span[id]"), ["differ", "may differ", "same"]);
+  assert.equal(await page.text("#pictured"), "Where 1 and 2 differ");
+  await page.click("#differences");
+  await checkPicture(apple);
+});
+
+test("the page compares conditions with what no target says", { skip: missing }, async () => {
+  await page.write('target_os = "macos"\nwindows\nall(unix, feature = "x")');
+  await page.choose("#second", "2");
+  const unix = triples(isUnix);
+  const macos = triples((one) => one.target_os === "macos");
+  const start = "not on every target\\. On \\S+, with feature = \"x\"";
+  const [counts, forth, back] = await told();
+  assert.match(forth, new RegExp(`^1 implies 3: ${start} off, 1 is yes and 3 is no\\.$`));
+  assert.match(back, new RegExp(`^3 implies 1: ${start} on, 3 is yes and 1 is no\\.$`));
+  assert.equal(counts, `Their values differ on 0 targets, and are the same on ${
+    320 - unix.length}. On ${unix.length} targets the unknown switches decide.`);
+  await decide('feature = "x"', "on");
+  assert.match((await told())[0], new RegExp(`differ on ${unix.length - macos.length} targets`));
+  // What the switches say changes nothing in the sentences about all of them.
+  assert.deepEqual((await told()).slice(1), [forth, back]);
+});
+
+test("the page compares conditions in which predicates repeat", { skip: missing }, async () => {
+  const equal = ["1 and 2 are equal: on every target, whatever the switches say."];
+  const not = (start, end) => new RegExp(`^${start}: not on every target\\. On \\S+, ${end}\\.$`);
+  const rows = [
+    ['any(feature = "x", not(feature = "x"))\nall()', equal],
+    ["all(a, b)\nnot(any(not(a), not(b)))", equal],
+    ["all(a, not(a))\nwindows", ["1 implies 2: on every target, whatever the switches say.",
+                                 not("2 implies 1", "with a (on|off), 2 is yes and 1 is no")]],
+    ["a\nb", [not("1 implies 2", "with a on, b off, 1 is yes and 2 is no"),
+              not("2 implies 1", "with b on, a off, 2 is yes and 1 is no")]],
+    ["all(unix, a)\nany(all(unix, a), b)", [
+      "1 implies 2: on every target, whatever the switches say.",
+      not("2 implies 1", "with (a off, b on|b on, a off|b on), 2 is yes and 1 is no"),
+    ]],
+  ];
+  for (const [text, wanted] of rows) {
+    await page.write(text);
+    const [, ...sentences] = await told();
+    assert.equal(sentences.length, wanted.length, text);
+    wanted.forEach((one, at) => {
+      one instanceof RegExp ? assert.match(sentences[at], one) : assert.equal(sentences[at], one);
+    });
+  }
+});
+
+/** Returns a condition that is true if an odd number of flags is set. */
+function parityOf(names) {
+  const [first, ...rest] = names;
+  return rest.reduce((odd, name) => (
+    `any(all(${name}, not(${odd})), all(not(${name}), ${odd}))`
+  ), first);
+}
+
+test("the page says what was not tried out", { skip: missing }, async () => {
+  // Whether a number is odd does not say whether a sum of other numbers is. With few flags all of
+  // their values are tried, and with many not.
+  const parities = (count) => {
+    const names = Array.from({ length: count }, (_, at) => `f${at}`);
+    return `${parityOf(names)}\n${parityOf(names.toReversed())}`;
+  };
+  await page.write(parities(4));
+  const equal = "1 and 2 are equal: on every target, whatever the switches say.";
+  assert.deepEqual((await told()).slice(1), [equal]);
+  await page.write(parities(9));
+  const untried = "not tried out, since there are too many ways to set the switches.";
+  assert.deepEqual((await told()).slice(1), [`1 implies 2: ${untried}`, `2 implies 1: ${untried}`]);
+});
+
+test("the page keeps what it shows in its address", { skip: missing }, async () => {
+  await page.write('any(windows, feature = "é=&#")\nunix\nall(test, unix)');
+  await page.press("ArrowUp");
+  await decide('feature = "é=&#"', "on");
+  await decide("test", "off");
+  await choose("aarch64-apple-ios");
+  await page.until('location.hash.includes("aarch64-apple-ios")');
+  const seen = () => Promise.all([
+    page.see('document.querySelector("#text").value'), page.text("#pictured"), page.text("#why"),
+    page.texts("#list .counts"), legend(), page.texts("#comparison li"),
+    page.see(`[...document.querySelectorAll(".switch :checked")].map((one) => one.value)`),
+  ]);
+  const before = await seen();
+  const address = await page.see("location.href");
+  await page.close();
+  page = await browser.open(address);
+  assert.deepEqual(await seen(), before);
+  assert.equal(before[1], "unix");
+  assert.deepEqual(before[6].sort(), ["off", "on"]);
+  await page.see(`location.hash = "#c=windows"`);
+  await page.until('document.querySelector("#text").value === "windows"');
+  await checkPicture(triples(isWindows));
+});
+
+test("the page copies the table and the link", { skip: missing }, async () => {
+  await browser.send("Browser.grantPermissions", {
+    permissions: ["clipboardReadWrite", "clipboardSanitizedWrite"],
+  });
+  await page.write('unix\nany(windows, feature = "x")');
+  const pasted = async (button) => {
+    await page.click(button);
+    await page.until(`"copied" in document.querySelector("${button}").dataset`);
+    await page.click("#text");
+    await page.press("Control+a", ["selectAll"]);
+    await page.press("Control+v", ["paste"]);
+    return page.see('document.querySelector("#text").value');
+  };
+  const rows = (await pasted("#copy-table")).trimEnd().split("\n").map((line) => line.split("\t"));
+  assert.deepEqual(rows[0], ["target", "unix", 'any(windows, feature = "x")']);
+  const wanted = TARGETS.map((one) => [one.triple, isUnix(one) ? "yes" : "no",
+                                       isWindows(one) ? "yes" : "unknown"]);
+  assert.deepEqual(rows.slice(1), wanted);
+  const link = await pasted("#copy-link");
+  assert.ok(link.startsWith(`${PAGE.href}#c=target%09unix`), link.slice(0, 200));
+});
+
+test("the page bounds what it reads", { skip: missing }, async () => {
+  await page.write(Array.from({ length: 70 }, (_, at) => `f${at}`).join("\n"));
+  assert.equal((await page.texts("#list li")).length, 60);
+  assert.match(await page.text("#limit"), /^Only the first 60 conditions/);
+  await page.write(`any(${"a, ".repeat(20_000)})`);
+  assert.match(await page.text("#limit"), /30000 characters are read\.$/);
+  await page.write(`any(${"a, ".repeat(3000)}windows)`);
+  await choose("x86_64-pc-windows-msvc");
+  assert.match(await page.text("#why"), /The tree has 3002 nodes, too many to draw\./);
+  await page.write("unix");
+  assert.equal(await page.text("#limit"), "");
+});
+
+/** Returns the middle one of some numbers. */
+function median(numbers) {
+  return [...numbers].sort((one, other) => one - other)[Math.floor(numbers.length / 2)];
+}
+
+/** Returns how many milliseconds of a processor the page took so far, to compute and to draw. */
+async function busy() {
+  const { metrics } = await page.send("Performance.getMetrics");
+  return metrics.find(({ name }) => name === "TaskDuration").value * 1000;
+}
+
+test("the page draws 20 conditions within 300 ms of a key", { skip: missing }, async () => {
+  const conditions = read("bench/conditions.txt").split("\n").slice(0, 19);
+  await page.send("Performance.enable", { timeDomain: "threadTicks" });
+  await page.write(`${conditions.join("\n")}\nfeature = "x"`);
+  await page.press("ArrowLeft");
+  // From a key on until its effect is drawn, as the browser measures it, in steps of 8 ms.
+  await page.see(`globalThis.took = [];
+    new PerformanceObserver((list) => took.push(...list.getEntries()
+      .filter((one) => one.name === "keydown").map((one) => one.duration)))
+      .observe({ type: "event", durationThreshold: 16 })`);
+  const worked = [];
+  for (const key of "abcdefghijklmnopqrst") {
+    const before = await busy();
+    await page.press(key);
+    worked.push(await busy() - before);
+  }
+  await page.until("took.length >= 10").catch(() => undefined);
+  const took = await page.see("took");
+  const [drawn, work] = [median(took) ?? 16, median(worked)];
+  console.log(`# 20 conditions on 320 targets: drawn ${drawn} ms after a key, of which a processor `
+    + `worked ${Math.round(work)} ms (medians of ${worked.length})`);
+  // On a busy machine the first says nothing of the page.
+  assert.ok(Math.min(drawn, work) <= 300, JSON.stringify({ took, worked }));
+});
+
+test("the page asks nothing of a network, and says nothing on the console", { skip: missing }, async () => {
+  await page.write('all(unix, feature = "x")\nunix');
+  await choose("x86_64-unknown-linux-gnu");
+  await decide('feature = "x"', "on");
+  await page.click("#differences");
+  await page.until('location.hash.includes("differ=yes")');
+  const outside = page.requests.filter((url) => !url.startsWith("data:"));
+  assert.deepEqual(outside, [PAGE.href]);
+  // What the console says fails any test.
+  assert.deepEqual(page.complaints, []);
+  await page.see('console.log("heard")');
+  assert.equal(page.complaints.splice(0).length, 1);
+});
+
+test("the page has a policy that refuses all else", { skip: missing }, async () => {
+  const policy = await page.see('document.querySelector("meta[http-equiv]").content');
+  assert.match(policy, /^default-src 'none'; script-src 'sha256-[^']+' 'wasm-unsafe-eval'; /);
+  assert.ok(!policy.includes("unsafe-inline") && !policy.includes(" 'unsafe-eval'"));
+  const refused = await page.see(`Promise.all([
+    fetch("https://127.0.0.1/").then(() => "fetched", () => "refused"),
+    new Promise((done) => {
+      const script = document.createElement("script");
+      script.textContent = "globalThis.wasRun = true";
+      document.body.append(script);
+      setTimeout(() => done(globalThis.wasRun ? "run" : "refused"), 50);
+    }),
+    new Promise((done) => {
+      document.body.setAttribute("style", "color: rgb(1, 2, 3)");
+      done(getComputedStyle(document.body).color === "rgb(1, 2, 3)" ? "styled" : "refused");
+    }),
+  ])`);
+  assert.deepEqual(refused, ["refused", "refused", "refused"]);
+  assert.ok(page.complaints.splice(0).every((one) => one.includes("Content Security Policy")));
+});
+
+test("the page works on a server", { skip: missing }, async () => {
+  const bytes = await readFile(PAGE);
+  const server = createServer((_, response) => {
+    response.setHeader("Content-Type", "text/html");
+    response.end(bytes);
+  });
+  await new Promise((done) => server.listen(0, "127.0.0.1", done));
+  const url = `http://127.0.0.1:${server.address().port}/`;
+  try {
+    await page.go(url);
+    await page.write("windows");
+    await checkPicture(triples(isWindows));
+    assert.deepEqual(page.complaints, []);
+    assert.ok(page.requests.every((one) => /^(file|data):/.test(one) || one === url));
+  } finally {
+    server.close();
+    server.closeAllConnections();
+  }
+});
+
+test("the page has a name for each control", { skip: missing }, async () => {
+  await page.write('all(unix, feature = "x")\nunix');
+  await choose("x86_64-unknown-linux-gnu");
+  const { nodes } = await page.send("Accessibility.getFullAXTree");
+  const roles = ["button", "textbox", "radio", "combobox", "group", "heading", "link"];
+  const controls = nodes.filter(({ ignored, role }) => !ignored && roles.includes(role?.value));
+  assert.ok(controls.length > 320);
+  const unnamed = controls.filter(({ name }) => !name?.value?.trim());
+  assert.deepEqual(unnamed.map(({ role }) => role.value), []);
+  assert.equal(await page.see("document.documentElement.lang"), "en");
+  const ids = await page.see('[...document.querySelectorAll("[id]")].map((one) => one.id)');
+  assert.equal(new Set(ids).size, ids.length);
+});
+
+test("the page is readable in each colour scheme and width", { skip: missing }, async () => {
+  for (const scheme of ["light", "dark"]) {
+    for (const width of [1280, 700, 320]) {
+      await page.close();
+      page = await browser.open(PAGE.href, { width, scheme });
+      await choose("x86_64-unknown-linux-gnu");
+      const [wide, inside] = await page.see(
+        "[document.scrollingElement.scrollWidth, document.documentElement.clientWidth]",
+      );
+      assert.ok(wide <= inside, `${scheme} ${width}: ${wide}`);
+      for (const [name, contrast] of await contrasts()) {
+        assert.ok(contrast >= 4.5, `${scheme}: ${name} has ${contrast}`);
+      }
+    }
+  }
+});
+
+/** Returns the contrast of the text of some elements with the card below them. */
+function contrasts() {
+  return page.see(`(() => {
+    const light = (color) => {
+      const [red, green, blue] = color.match(/[\\d.]+/g).map((part) => part / 255)
+        .map((part) => (part <= 0.04045 ? part / 12.92 : ((part + 0.055) / 1.055) ** 2.4));
+      return 0.2126 * red + 0.7152 * green + 0.0722 * blue;
+    };
+    const card = light(getComputedStyle(document.querySelector(".card")).backgroundColor);
+    return ["h1", "h2", "h3", ".processor h4", "#fault", ".about", ".facts dt", "#examples button",
+            ".line [data-kind=key]", ".line [data-kind=value]", ".line [data-kind=any]",
+            ".verdict b", ".link"].map((name) => {
+      const text = light(getComputedStyle(document.querySelector(name)).color);
+      return [name, (Math.max(text, card) + 0.05) / (Math.min(text, card) + 0.05)];
+    });
+  })()`);
+}

@@ -1,0 +1,168 @@
+"""A report for programs."""
+import itertools
+import json
+import os
+from typing import Any, Callable, Dict, Iterable, Iterator, List, Optional, Sequence, Tuple
+
+from .. import __version__, _sarif
+from .._sarif import Level, Region, Rule, Tool
+from .._terminal import shown
+from ..manifest._once import Once
+from ._findings import Finding, name_of
+from ._model import Guard, Place
+from ._names import CHOICES, FAULTY, NEVER, OVERLAP
+from ._report import File, Report
+from ._text import chosen_rows, choice_of, counts_in
+from ._values import Answer, GroupRow, Row
+
+# The version of the form of the JSON. A later one may have more members.
+VERSION = 1
+NAME = "cfgx-code"
+WORDS = {True: "yes", False: "no", None: "unknown"}
+# How many guards around a condition are told.
+MOST_GUARDS = 64
+RULES = (
+    Rule(NEVER, "The condition is true on none of the targets, whatever is set.", Level.WARNING),
+    Rule(FAULTY, "rustc refuses the condition.", Level.ERROR),
+    Rule(OVERLAP, "Items with one name in a scope are there at once on a target.", Level.WARNING),
+)
+LEVELS = {rule.name: rule.level for rule in RULES}
+HEAD = ("path", "line", "column", "form", "is", "yes", "no", "unknown", "within", "condition")
+# What makes the words for the values of an answer.
+Answered = Callable[[Tuple[Optional[bool], ...]], List[str]]
+
+
+def json_of(report: Report, only: Sequence[str], is_summary: bool) -> Iterator[str]:
+    """Yields the lines of one object of JSON, which is ASCII. Each file is a line."""
+    targets = [platform.triple for platform in report.platforms]
+    yield f'{{"version": {VERSION},'
+    yield f'"targets": {json.dumps(targets)},'
+    yield '"files": ['
+    answered: Answered = Once(values_of)
+    for number, file in enumerate(report.files, 1):
+        entry = summary_entry(file) if is_summary else file_entry(file, only, answered)
+        yield json.dumps(entry) + ("," if number < len(report.files) else "")
+    passed = [{"path": one.path, "reason": one.reason} for one in report.passed]
+    yield f'], "count": {report.count}, "passed": {json.dumps(passed)},'
+    yield f'"tried": {json.dumps(report.is_tried)}}}'
+
+
+def summary_entry(file: File) -> Dict[str, Any]:
+    """Returns the object of a file with numbers."""
+    counts = counts_in([file])
+    return {"path": file.path, "counts": {one: counts[one] for one in ("conditions", *CHOICES)}}
+
+
+def file_entry(file: File, only: Sequence[str], answered: Answered) -> Dict[str, Any]:
+    """Returns the object of a file."""
+    unread = None
+    if file.code.unread is not None and file.code.unread_from is not None:
+        unread = {"message": file.code.unread, **place_members(file.code.unread_from)}
+    return {
+        "path": file.path, "context": list(file.context), "unread": unread,
+        "conditions": [row_entry(row, answered) for row in chosen_rows(file, frozenset(only))],
+        "groups": [group_entry(row, answered) for row in file.groups],
+    }
+
+
+def row_entry(row: Row, answered: Answered) -> Dict[str, Any]:
+    """Returns the object of a condition."""
+    one = row.condition
+    problem = None
+    if one.problem is not None:
+        problem = {"reason": one.problem.reason.name, "message": one.problem.reason.value,
+                   **place_members(one.problem.place)}
+    return {
+        "number": one.number, "form": one.form.value, "inner": one.is_inner,
+        **place_members(one.place), "condition": one.text, "is": choice_of(row.verdict),
+        "within": row.within, "partial": row.is_partial, "problem": problem,
+        "guards": list(guard_entries(one.guard)), **answer_members(row.answer, answered),
+    }
+
+
+def guard_entries(guard: Optional[Guard]) -> Iterator[Dict[str, Any]]:
+    """Yields the objects of guards, from the inside out."""
+    for one in itertools.islice([] if guard is None else guard.all, MOST_GUARDS):
+        yield {"condition": one.text, "number": one.number}
+
+
+def group_entry(row: GroupRow, answered: Answered) -> Dict[str, Any]:
+    """Returns the object of what belongs together."""
+    group = row.group
+    return {
+        "name": name_of(group), "line": group.place.line, "column": group.place.column,
+        "branches": list(group.branches), "last": group.has_last,
+        "items": [{"kind": item.kind, "name": item.name, **place_members(item.place)}
+                  for item in group.items],
+        "none": row.none and answer_members(row.none, answered),
+        "two": row.two and answer_members(row.two, answered),
+    }
+
+
+def place_members(place: Place) -> Dict[str, int]:
+    """Returns the members of a place."""
+    return dict(place._asdict())
+
+
+def values_of(on: Tuple[Optional[bool], ...]) -> List[str]:
+    """Returns the words for values."""
+    return [WORDS[value] for value in on]
+
+
+def answer_members(answer: Optional[Answer], answered: Answered) -> Dict[str, Any]:
+    """Returns the members of an answer."""
+    if answer is None:
+        return {"values": None, "unknown": []}
+    unknown = [
+        {"targets": list(places), "flags": list(reason.flags), "if_yes": reason.if_yes,
+         "if_no": reason.if_no}
+        for reason, places in answer.unknown
+    ]
+    return {"values": answered(answer.on), "unknown": unknown}
+
+
+def tsv_of(report: Report, only: Sequence[str], is_summary: bool) -> Iterator[str]:
+    """Yields lines whose cells stand between tabs, the head first."""
+    if is_summary:
+        columns = ("conditions", *CHOICES)
+        yield "\t".join(("path", *columns))
+        for file in report.files:
+            counts = counts_in([file])
+            yield "\t".join([shown(file.path), *(str(counts[one]) for one in columns)])
+        return
+    yield "\t".join(HEAD)
+    for file in report.files:
+        yield from (tabbed(file, row) for row in chosen_rows(file, frozenset(only)))
+
+
+def tabbed(file: File, row: Row) -> str:
+    """Returns the line of a condition."""
+    one = row.condition
+    on = () if row.answer is None else row.answer.on
+    counts = (str(on.count(value)) for value in (True, False, None))
+    within = "" if row.within is None else str(file.code.conditions[row.within].place.line)
+    cells = (file.path, str(one.place.line), str(one.place.column), one.form.value,
+             choice_of(row.verdict), *counts, within, one.text or "")
+    return "\t".join(map(shown, cells))
+
+
+def sarif_of(
+    report: Report, findings: Iterable[Tuple[Finding, Optional[str]]]
+) -> Iterator[str]:
+    """Yields the lines of what is found, in SARIF."""
+    base = _sarif.base_of([os.path.abspath(file.path) for file in report.files])
+    notes = [shown(f"{one.path} was passed over: {one.reason}") for one in report.passed]
+    run = _sarif.Run("the folder that has each file", report.is_tried, notes)
+
+    def place_of(path: str, place: Place) -> _sarif.Place:
+        relative = os.path.relpath(os.path.abspath(path), base)
+        region = Region(place.line, place.column, place.end_line, place.end_column)
+        return _sarif.Place(relative, region)
+
+    yield from _sarif.lines_of(Tool(NAME, __version__, RULES), run, (
+        _sarif.Finding(
+            one.name, LEVELS[one.name], shown(one.text), place_of(one.path, one.place),
+            [place_of(one.path, other) for other in one.related], reason,
+        )
+        for one, reason in findings
+    ))

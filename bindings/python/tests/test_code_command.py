@@ -1,0 +1,220 @@
+"""The command `cfgx-code` as a process, and its page."""
+import json
+import os
+import re
+import subprocess
+import sys
+
+from . import PACKAGE, ROOT, needs
+from .made import Folder
+
+from cfgx import _code_arguments, _library
+from cfgx.code._names import CHOICES
+
+PAGE = os.path.join(ROOT, "docs", "CODE.md")
+SCHEMA = os.path.join(PACKAGE, "cfgx", "code", "schema.json")
+CODE = '#[cfg(all(unix, windows))]\nfn f() {}\n#[cfg(not(a, b))]\nfn g() {}\n'
+# What would end a line, clear the screen or turn the direction of what follows.
+HOSTILE = "a\n\x1b[2J\u202e.rs"
+SHOWN = r"a\n\x1b[2J\u202e.rs"
+
+
+class Made(Folder):
+    """Files in a folder of their own, and the command."""
+
+    def command(self, *words, folder=None):
+        """Returns the status of the command in the folder, and what it prints on both streams."""
+        script = os.path.abspath(os.path.join(PACKAGE, "cfgx_code.py"))
+        run = subprocess.run(
+            [sys.executable, script, *words], cwd=folder or self.folder, check=False,
+            stdout=subprocess.PIPE, stderr=subprocess.PIPE,
+            env={"PATH": os.environ["PATH"], "PYTHONUTF8": "1", "PYTHONDONTWRITEBYTECODE": "1",
+                 "CFGX_LIBRARY": _library.path_of(), "HOME": os.environ.get("HOME", "/")},
+        )
+        return run.returncode, run.stdout.decode(), run.stderr.decode()
+
+
+class Statuses(Made):
+    """With which status the command ends."""
+
+    def test_nothing_found(self):
+        self.write("one.rs", "#[cfg(unix)] fn f() {}")
+        status, stdout, stderr = self.command("--fail-on", "never,faulty,overlap")
+        self.assertEqual((status, stderr), (0, ""))
+        self.assertIn("true on 202 of 320", stdout)
+
+    def test_found(self):
+        self.write("one.rs", CODE + "#[cfg(unix)] fn h() {} fn h() {}")
+        for word, line in (("never", "one.rs:1:7: never"), ("faulty", "one.rs:3:7: faulty"),
+                           ("overlap", "one.rs:5:24: overlap")):
+            status, stdout, stderr = self.command("--fail-on", word, "one.rs")
+            self.assertEqual((status, stderr.count("\n")), (1, 1), stderr)
+            self.assertTrue(stderr.startswith(f"cfgx-code: {line}: "), stderr)
+            self.assertIn("one.rs:1:7: never\n1 | #[cfg(all(unix, windows))]\n  |       ^^^^", stdout)
+
+    def test_wrong_use(self):
+        self.write("one.rs", "")
+        self.write("empty.txt", "# nothing\n")
+        for words, message in (
+            (["--none"], "--none"), (["--target", "x-y-z"], "x-y-z"), (["no.rs"], "there is no no.rs"),
+            (["--only", "maybe"], "--only takes"), (["--fail-on", "two"], "--fail-on takes"),
+            (["--ci", "empty.txt"], "lists no target"), (["--ci", "no.txt"], "cannot be read"),
+            (["--format", "sarif", "--summary"], "sarif"), (["--cfg", "a=b"], "no flag"),
+        ):
+            status, stdout, stderr = self.command(*words)
+            self.assertEqual((status, stdout), (2, ""), words)
+            self.assertIn(message, stderr)
+
+    def test_could_not_run(self):
+        self.write("Cargo.toml", "[package]\n")
+        self.assertEqual(self.command("Cargo.toml")[0], 3)
+        self.write("known.toml", "[[known]]\n")
+        self.assertEqual(self.command("--known", "known.toml")[0], 3)
+
+    def test_known(self):
+        self.write("one.rs", CODE)
+        known = self.write("known.toml", '[[known]]\nfinding = "never"\nreason = "x"\n'
+                           'condition = "all(unix, windows)"\n')
+        words = ("--known", known, "--fail-on", "never", "one.rs")
+        self.assertEqual(self.command(*words)[0], 0)
+        self.write("one.rs", "#[cfg(all(windows, unix))] fn f() {}")
+        status, _, stderr = self.command(*words)
+        self.assertEqual(status, 1)
+        self.assertIn("matches nothing", stderr)
+
+    @needs("cargo", untested="cfgx-code of a package")
+    def test_packages(self):
+        self.write("p/Cargo.toml", '[package]\nname = "p"\nversion = "0.1.0"\n')
+        self.write("p/src/lib.rs", "#[cfg(unix)] mod a;")
+        self.write("p/src/a.rs", "#[cfg(windows)] fn f() {}")
+        self.write("p/other.rs", CODE)
+        for words in (["p/Cargo.toml"], ["--manifest-path", "p"],
+                      ["-p", "p", "--manifest-path", "p/Cargo.toml"]):
+            status, stdout, stderr = self.command("--only", "never", *words)
+            self.assertEqual((status, stdout.count(": never\n")), (0, 1), stderr)
+        self.assertEqual(self.command("-p", "q", "--manifest-path", "p")[0], 2)
+
+
+class Folders(Made):
+    """What is read of folders that somebody else made."""
+
+    def test_what_is_passed_over(self):
+        outside = self.write("outside/x.rs", CODE)
+        self.write("top/good.rs", "#[cfg(unix)] fn f() {}")
+        self.write("top/.hidden/x.rs", CODE)
+        self.write("top/target/CACHEDIR.TAG", "")
+        self.write("top/target/x.rs", CODE)
+        with open(self.write("top/latin.rs"), "wb") as file:
+            file.write(b"// \xff\n#[cfg(a)] fn f() {}")
+        with open(self.write("top/large.rs"), "wb") as file:
+            file.truncate((1 << 24) + 1)
+        os.mkfifo(os.path.join(self.folder, "top", "fifo.rs"))
+        os.symlink(outside, os.path.join(self.folder, "top", "link.rs"))
+        os.symlink(os.path.dirname(outside), os.path.join(self.folder, "top", "folder"))
+        os.symlink("/nowhere", os.path.join(self.folder, "top", "broken.rs"))
+        os.symlink(".", os.path.join(self.folder, "top", "loop"))
+        status, stdout, stderr = self.command("top", "--format", "json")
+        found = json.loads(stdout)
+        self.assertEqual((status, [file["path"] for file in found["files"]]), (0, ["top/good.rs"]))
+        self.assertEqual({one["path"]: one["reason"] for one in found["passed"]}, {
+            "top/latin.rs": "it is not UTF-8", "top/large.rs": "it has more than 16777216 bytes",
+            "top/fifo.rs": "it is no regular file", "top/link.rs": "a link leads out of the folder",
+            "top/folder": "a link leads out of the folder",
+            "top/broken.rs": "a link leads out of the folder",
+        })
+        self.assertEqual(stderr.count("was passed over"), 6)
+
+    def test_hostile_names(self):
+        self.write(HOSTILE, '#[cfg(a = "\x1b[2J")] #[cfg(all(unix, windows))] fn f() {}')
+        for words in ([], ["--summary"], ["--format", "tsv"], ["--format", "json"],
+                      ["--format", "sarif"]):
+            _, stdout, stderr = self.command("--fail-on", "never", *words)
+            self.assertNotIn("\x1b", stdout + stderr)
+            self.assertIn(SHOWN, stderr)
+
+
+class Formats(Made):
+    """What is printed for programs."""
+
+    def fitting(self, value, schema, where="$"):
+        """Compares a value with a schema, as far as this one needs."""
+        if "const" in schema:
+            self.assertEqual(value, schema["const"], where)
+        if "enum" in schema:
+            self.assertIn(value, schema["enum"], where)
+        kinds = {"object": dict, "array": list, "string": str, "integer": int, "boolean": bool,
+                 "null": type(None)}
+        wanted = schema.get("type", [])
+        wanted = [wanted] if isinstance(wanted, str) else wanted
+        if wanted:
+            self.assertIn(type(value), [kinds[one] for one in wanted], where)
+        if isinstance(value, dict) and "properties" in schema:
+            self.assertLessEqual(set(schema.get("required", [])), set(value), where)
+            for name, one in value.items():
+                self.assertIn(name, schema["properties"], where)
+                self.fitting(one, schema["properties"][name], f"{where}.{name}")
+        if isinstance(value, list) and "items" in schema:
+            for number, one in enumerate(value):
+                self.fitting(one, schema["items"], f"{where}[{number}]")
+
+    def test_json(self):
+        self.write("one.rs", CODE + "#[cfg(unix)] fn h() {} fn h() {} #[cfg(version(\"1\"))] fn i() {}"
+                   '#[cfg(feature = "x")] mod m { cfg_if! { if #[cfg(unix)] {} } }')
+        with open(SCHEMA, encoding="utf-8") as file:
+            schema = json.load(file)
+        self.assertEqual(json.loads(self.command("--schema")[1]), schema)
+        for words in ([], ["--summary"], ["--only", "never"]):
+            found = json.loads(self.command("--format", "json", *words)[1])
+            self.fitting(found, schema)
+        found = json.loads(self.command("--format", "json", "--target",
+                                        "x86_64-unknown-linux-gnu")[1])
+        one, two, *_ = found["files"][0]["conditions"]
+        self.assertEqual((one["is"], one["values"], one["line"], one["start"]), ("never", ["no"], 1, 6))
+        self.assertEqual((two["is"], two["values"], two["problem"]["reason"]),
+                         ("faulty", None, "MEMBERS"))
+        self.assertEqual(found["files"][0]["groups"][0]["two"]["values"], ["yes"])
+
+    def test_tsv(self):
+        self.write("one.rs", CODE)
+        lines = self.command("--format", "tsv")[1].splitlines()
+        self.assertEqual(lines[1], "one.rs\t1\t7\tcfg\tnever\t0\t320\t0\t\tall(unix, windows)")
+        self.assertEqual({line.count("\t") for line in lines}, {9})
+
+    def test_sarif(self):
+        self.write("src/a b.rs", CODE)
+        found = json.loads(self.command("--format", "sarif", "src")[1])["runs"][0]
+        self.assertEqual([one["ruleId"] for one in found["results"]], ["never", "faulty"])
+        place = found["results"][0]["locations"][0]["physicalLocation"]
+        self.assertEqual(place["artifactLocation"]["uri"], "src/a%20b.rs")
+        self.assertEqual(place["region"], {"startLine": 1, "startColumn": 7, "endLine": 1,
+                                           "endColumn": 25})
+
+
+class Page(Made):
+    """The page CODE."""
+
+    def blocks(self):
+        """Returns the language and the text of each block of the page."""
+        with open(PAGE, encoding="utf-8") as file:
+            return re.findall(r"^```(\w*)\n(.*?)^```$", file.read(), re.M | re.S)
+
+    def test_the_example(self):
+        blocks = self.blocks()
+        triples, never, two = [text for language, text in blocks if language == "text"]
+        [code] = [text for language, text in blocks if language == "rust"]
+        [command] = [text for language, text in blocks if language == "sh"]
+        self.write("ci.txt", triples)
+        self.write("src/lib.rs", code)
+        self.assertEqual(self.command(*command.split()[1:]), (0, never, ""))
+        self.assertEqual(self.command("--only", "two", "src"), (0, two, ""))
+        self.assertEqual(self.command(*"--quiet --fail-on never,faulty,overlap src".split())[0], 1)
+
+    def test_options_and_words(self):
+        with open(PAGE, encoding="utf-8") as file:
+            text = file.read()
+        parser = _code_arguments.parser_of(__import__("argparse").ArgumentParser)
+        names = {one for action in parser._actions for one in action.option_strings}
+        told = set(re.findall(r"(?<![\w-])--?[a-z][\w-]*", text))
+        self.assertLessEqual(names - {"--help", "-h", "-q", "--package", "--version"}, told)
+        words = set(re.findall(r"^\| `([\w-]+)` \|", text, re.M))
+        self.assertLessEqual(set(CHOICES), words)

@@ -1,0 +1,155 @@
+"""Which conditions are found in code, and what has to hold where they stand. Each row is worked out
+by hand; the tests of rustc compare what is found with what it sees."""
+import json
+import os
+import unittest
+
+from . import HERE, needs
+from .judge_code import compared
+from .made_code import file_of
+
+from cfgx.code import read
+
+RECORDED = os.path.join(HERE, "code_seen.json")
+# How many files that are made are compared with rustc.
+MADE = 24
+# Code, and each condition in it as `form text`, behind it in `{ }` the guards from the outside in.
+ROWS = [
+    ("#![cfg(a)] #[cfg(b)] fn f() {} fn g() { cfg!(c); }",
+     ["cfg a {}", "cfg b {a}", "cfg! c {a}"]),
+    ("#[cfg(a)] mod m { #[cfg(b)] fn f() { if cfg!(c) {} } } #[cfg(d)] fn g() {}",
+     ["cfg a {}", "cfg b {a}", "cfg! c {a, b}", "cfg d {}"]),
+    ("mod m { #![cfg(a)] fn f() { cfg!(b); } } fn g() { cfg!(c); }",
+     ["cfg a {}", "cfg! b {a}", "cfg! c {}"]),
+    ("fn f() { #[cfg(a)] { cfg!(b); } cfg!(c); }", ["cfg a {}", "cfg! b {a}", "cfg! c {}"]),
+    ("fn f() { #[cfg(a)] let x = { cfg!(b) }; cfg!(c); }", ["cfg a {}", "cfg! b {a}", "cfg! c {}"]),
+    ("fn f() { #[cfg(a)] if x { cfg!(b); } else { cfg!(c); } cfg!(d); }",
+     ["cfg a {}", "cfg! b {a}", "cfg! c {a}", "cfg! d {}"]),
+    ("fn f() { #[cfg(a)] if let S { x } = y { cfg!(b); } cfg!(c); }",
+     ["cfg a {}", "cfg! b {a}", "cfg! c {}"]),
+    ("fn f() { match x { #[cfg(a)] S { y, .. } => { cfg!(b) } #[cfg(c)] _ => cfg!(d), } cfg!(e); }",
+     ["cfg a {}", "cfg! b {a}", "cfg c {}", "cfg! d {c}", "cfg! e {}"]),
+    ("fn f() { match x { #[cfg(a)] 1 => |p, q| cfg!(b), 2 => cfg!(c) } }",
+     ["cfg a {}", "cfg! b {a}", "cfg! c {}"]),
+    ("fn f() { g(#[cfg(a)] cfg!(b), cfg!(c)); [#[cfg(d)] cfg!(e), cfg!(f)]; }",
+     ["cfg a {}", "cfg! b {a}", "cfg! c {}", "cfg d {}", "cfg! e {d}", "cfg! f {}"]),
+    ("struct S { #[cfg(a)] x: A<B, C>, #[cfg(b)] y: u8 } fn f() { cfg!(c); }",
+     ["cfg a {}", "cfg b {}", "cfg! c {}"]),
+    ("fn f() { S { #[cfg(a)] x: p < q, y: cfg!(b) } }", ["cfg a {}", "cfg! b {}"]),
+    ("enum E { #[cfg(a)] A { #[cfg(b)] x: u8 }, #[cfg(c)] B }", ["cfg a {}", "cfg b {a}", "cfg c {}"]),
+    ("fn f<#[cfg(a)] T, U>(#[cfg(b)] x: T, y: U) { cfg!(c); }",
+     ["cfg a {}", "cfg b {}", "cfg! c {}"]),
+    ("#[cfg(a)] const X: bool = cfg!(b); const Y: bool = cfg!(c);",
+     ["cfg a {}", "cfg! b {a}", "cfg! c {}"]),
+    ("#[cfg(a)] macro_rules! m { () => { cfg!(b) } } fn f() { cfg!(c); }",
+     ["cfg a {}", "cfg! b {a}", "cfg! c {}"]),
+    ("#[cfg(a)] m!(cfg!(b)); #[cfg(c)] m! { cfg!(d) } fn f() { cfg!(e); }",
+     ["cfg a {}", "cfg! b {a}", "cfg c {}", "cfg! d {c}", "cfg! e {}"]),
+    ("#[cfg(a)] unsafe extern \"C\" { fn f(); } #[cfg(b)] pub(crate) const unsafe fn g() { cfg!(c); }"
+     " fn h() { cfg!(d); }", ["cfg a {}", "cfg b {}", "cfg! c {b}", "cfg! d {}"]),
+    # Several attributes on one item hold together.
+    ("#[cfg(a)] #[inline] /// doc\n #[cfg(b)] fn f() { cfg!(c); } fn g() { cfg!(d); }",
+     ["cfg a {}", "cfg b {a}", "cfg! c {a, b}", "cfg! d {}"]),
+    # What is inside of `cfg_attr` matters only where its condition holds.
+    ("#[cfg_attr(a, path = \"x\", cfg(b))] mod m { cfg!(c) }",
+     ["cfg_attr a {}", "cfg b {a}", "cfg! c {any(not(a), b)}"]),
+    ("#[cfg_attr(a, cfg_attr(b, inline, cfg(c)))] fn f() { cfg!(d); }",
+     ["cfg_attr a {}", "cfg_attr b {a}", "cfg c {a, b}", "cfg! d {any(not(a), not(b), c)}"]),
+    ("#[cfg_attr(a, inline)] fn f() { cfg!(b); }", ["cfg_attr a {}", "cfg! b {}"]),
+    # Of a chain, the first branch is taken that holds.
+    ("cfg_if! { if #[cfg(a)] { cfg!(b); } else if #[cfg(c)] { cfg!(d); } else { cfg!(e); } }"
+     " fn f() { cfg!(f); }",
+     ["cfg_if! a {}", "cfg! b {a}", "cfg_if! c {not(a)}", "cfg! d {not(a), c}",
+      "cfg! e {not(a), not(c)}", "cfg! f {}"]),
+    ("cfg_select! { a => { cfg!(b) } any(c, d) => cfg!(e), _ => { cfg!(f) } }",
+     ["cfg_select! a {}", "cfg! b {a}", "cfg_select! any(c, d) {not(a)}",
+      "cfg! e {not(a), any(c, d)}", "cfg! f {not(a), not(any(c, d))}"]),
+    ("fn f() { cfg_select! { a => if x { 1 } else { cfg!(b) } _ => cfg!(c) }; cfg!(d); }",
+     ["cfg_select! a {}", "cfg! b {a}", "cfg! c {not(a)}", "cfg! d {}"]),
+    # What looks like a condition and is none.
+    ("// #[cfg(a)]\n/* cfg!(b) */ const S: &str = \"#[cfg(c)]\"; const C: char = '\"'; fn f<'a>() {}"
+     " #[doc = r#\"cfg!(d) \"# ] #[xcfg(e)] fn g() { cfg_(f); cfg != x; acfg!(h); }", []),
+]
+# Code, and the names that stand there several times, with the guards of each.
+TWINS = [
+    ("#[cfg(a)] fn f() {} #[cfg(b)] fn f() {}", ["f: a | b"]),
+    ("#[cfg(a)] struct S; #[cfg(b)] type S = u8; fn S() {}", ["S: a | b"]),
+    ("#[cfg(a)] fn f() {} fn f() {}", ["f: a | "]),
+    ("#[cfg(a)] fn f() {} mod m { #[cfg(b)] fn f() {} }", []),
+    ("#[cfg(x)] mod m { #[cfg(a)] fn f() {} #[cfg(b)] fn f() {} }", ["f: x a | x b"]),
+    ("cfg_if! { if #[cfg(a)] { mod m; } else { mod m; } } mod m;", ["m: a | not(a) | "]),
+    ("fn f() { #[cfg(a)] const X: u8 = 1; #[cfg(b)] static X: u8 = 2; }", ["X: a | b"]),
+    ("impl S { #[cfg(a)] pub fn f(&self) {} #[cfg(b)] pub unsafe fn f(&self) {} }", ["f: a | b"]),
+    ("#[cfg(a)] const _: () = (); #[cfg(b)] const _: () = ();", []),
+    ("#[cfg(a)] mod m { #![cfg(b)] } #[cfg(c)] mod m;", ["m: a b | c"]),
+    ("#[cfg(a)] use x::f; #[cfg(b)] use y::f;", []),
+    ("#[cfg(a)] macro_rules! m { () => {} } #[cfg(b)] macro_rules! m { () => {} }", []),
+]
+
+
+def guards_of(guard):
+    """Returns the texts of guards, from the outside in."""
+    return [one.text for one in ([] if guard is None else guard.all)][::-1]
+
+
+class Reading(unittest.TestCase):
+    """What is found in code."""
+
+    def test_conditions_and_guards(self):
+        for code, wanted in ROWS:
+            with self.subTest(code=code):
+                found = read(code)
+                self.assertIsNone(found.unread)
+                self.assertEqual([
+                    f"{one.form.value} {one.text} {{{', '.join(guards_of(one.guard))}}}"
+                    for one in found.conditions
+                ], wanted)
+
+    def test_items_with_one_name(self):
+        for code, wanted in TWINS:
+            with self.subTest(code=code):
+                groups = [one for one in read(code).groups if one.items]
+                self.assertEqual([
+                    f"{group.items[0].name}: "
+                    + " | ".join(" ".join(guards_of(item.guard)) for item in group.items)
+                    for group in groups
+                ], wanted)
+
+    def test_columns_count_characters(self):
+        [found] = read('/* \u00e9\u4e2d */ #[cfg(unix)] fn f() {}').conditions
+        self.assertEqual(found.place, (1, 16, 1, 20, 18, 22))
+
+    def test_what_follows_an_end_is_not_read(self):
+        code = read('#[cfg(a)] fn f() {}\nconst X: &str = r#"#[cfg(b)] "; #[cfg(c)] fn g() {}')
+        self.assertEqual([one.text for one in code.conditions], ["a"])
+        self.assertEqual((code.unread, code.unread_from[:2]), ("a raw string does not end", (2, 19)))
+
+    def test_modules(self):
+        [one, other] = read('#[cfg(a)] #[path = "x.rs"] mod m;\nmod n { mod o; } mod p {}').modules
+        self.assertEqual((one.name, one.paths, one.has_usual_path, guards_of(one.guard)),
+                         ("m", ("x.rs",), False, ["a"]))
+        self.assertEqual((other.name, other.folders, other.has_usual_path), ("o", ("n",), True))
+
+    def test_recorded(self):
+        # What rustc 1.95 sees in files that are made, as tests/judge_code records it.
+        with open(RECORDED, encoding="utf-8") as file:
+            rows = json.load(file)
+        self.assertGreaterEqual(len(rows), 20)
+        for row in rows:
+            found = [[one.form.value, one.is_inner, *one.place[:4]]
+                     for one in read(row["code"]).conditions]
+            self.assertEqual(found, row["seen"])
+
+
+@needs("rustc", untested="whether cfgx.code sees the conditions that rustc sees")
+class Rustc(unittest.TestCase):
+    """What rustc sees."""
+
+    def test_files_that_are_made(self):
+        count = 0
+        for seed in range(10_000, 10_000 + MADE):
+            found = compared(str(seed), file_of(seed).encode())
+            self.assertIsNotNone(found.count, seed)
+            self.assertEqual((seed, found.missed, found.invented), (seed, [], []))
+            count += found.count
+        self.assertGreater(count, 100)
