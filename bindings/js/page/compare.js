@@ -59,8 +59,8 @@ function implication(one, other, { target, answers, isWhole }) {
 /** Returns the sentence that says on how many targets two conditions differ. */
 function differences(values) {
   const [same, differ, may] = countsOf(values.numbers);
-  const open = may > 0 ? ` On ${counted(may, "target")} the unknown switches decide.` : "";
-  return `Their values differ on ${counted(differ, "target")}, and are the same on ${same}.${open}`;
+  const open = may > 0 ? `, ${may} as the switches say` : "";
+  return `Different on ${counted(differ, "target")}, the same on ${same}${open}.`;
 }
 
 /** Returns the number of the condition that is chosen, which is there. */
@@ -75,7 +75,7 @@ export function offer(conditions, wanted) {
     wanted?.[at] < conditions.length ? wanted[at] : chosen(choice, conditions.length, at)
   ));
   choices.forEach((choice, at) => {
-    const names = conditions.map((one, place) => `${place + 1}: ${one.inner}`);
+    const names = conditions.map((one) => `${one.line + 1}: ${one.inner}`);
     if (names.join("\n") !== [...choice.options].map(({ text }) => text).join("\n")) {
       choice.replaceChildren(...names.map((name, place) => (
         element("option", { value: String(place) }, name)
@@ -88,9 +88,9 @@ export function offer(conditions, wanted) {
   return numbers;
 }
 
-/** Shows a comparison of the conditions with these numbers. */
+/** Shows a comparison of two conditions, which are named by their lines. */
 export function showComparison([first, second], { forth, back, values }) {
-  const [one, other] = [first + 1, second + 1];
+  const [one, other] = [first.line + 1, second.line + 1];
   const isEqual = [forth, back].every(({ target, isWhole }) => target === undefined && isWhole);
   const items = isEqual ?
     [element("li", {}, element("b", {}, `${one} and ${other} are equal`),

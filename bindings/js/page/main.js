@@ -54,8 +54,8 @@ function drawPicture(comparison) {
   const isDifferent = comparing.isShown() && comparison !== undefined;
   const names = isDifferent ? DIFFERENCES : NAMES;
   const numbers = isDifferent ? comparison.values.numbers : numbersOf(shown.selected);
-  const [first, second] = shown.compare ?? [];
-  setText(byId("pictured"), isDifferent ? `Where ${first + 1} and ${second + 1} differ` :
+  const lines = shown.compare?.map((at) => (shown.conditions[at]?.line ?? 0) + 1);
+  setText(byId("pictured"), isDifferent ? `Where ${lines.join(" and ")} differ` :
     shown.selected?.inner ?? "No condition yet");
   byId("pictured").classList.toggle("is-code", !isDifferent && shown.selected !== undefined);
   const isStale = !isDifferent && shown.atCaret?.fault !== undefined;
@@ -90,9 +90,9 @@ function drawComparison() {
     comparing.setShown(false);
     return undefined;
   }
-  const [one, other] = shown.compare.map((at) => conditions[at]);
-  const comparison = comparing.compared(one, other, switches.decided);
-  comparing.showComparison(shown.compare, comparison);
+  const both = shown.compare.map((at) => conditions[at]);
+  const comparison = comparing.compared(...both, switches.decided);
+  comparing.showComparison(both, comparison);
   return comparison;
 }
 
@@ -205,6 +205,6 @@ function bytesIn(text) {
 }
 
 startModule(await WebAssembly.compile(bytesIn(MODULE)));
-setText(byId("rustc"), `rustc ${rustcVersion()}`);
+setText(byId("rustc"), `${counted(TRIPLES.length, "target")} of rustc ${rustcVersion()}`);
 listen();
 load(address.stateIn(location.hash) ?? address.stateOf(field.value));

@@ -5,7 +5,7 @@ import { NAMES } from "./words.js";
 /** Returns the values of conditions on all targets: a line for each target, with tabs between the
  * columns. */
 export function tableOf(conditions, values) {
-  const head = ["target", ...conditions.map((one) => one.inner)];
+  const head = ["target", ...conditions.map((one) => one.inner.replaceAll("\t", " "))];
   const rows = TRIPLES.map((triple, target) => (
     [triple, ...values.map((one) => NAMES[one.numbers[target]])]
   ));

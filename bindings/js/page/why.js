@@ -137,6 +137,6 @@ export function showTarget(target, conditions, values, selected) {
 
 /** Shows that no target is chosen. */
 export function showNone() {
-  panel.replaceChildren(hint("Choose a cell, by a click or by the keyboard: Tab leads to the cells, "
-    + "and the arrow keys from one to another."));
+  panel.replaceChildren(hint("Choose a cell, by a click or by the keyboard: Tab leads to the cells,"
+    + " and the arrow keys from one to another."));
 }

@@ -145,7 +145,7 @@ const library = process.env.CFGX_LIBRARY ??
 const missing = needs("python3", "the values of real conditions beside those in Python") ||
   (existsSync(library) ? false : `there is no ${library}`);
 
-test("real conditions have on each target the values that they have in Python", { skip: missing }, () => {
+test("real conditions have on each target their values in Python", { skip: missing }, () => {
   const path = fileURLToPath(new URL("bench/conditions.txt", ROOT));
   const environment = {
     ...process.env, CFGX_LIBRARY: library, PYTHONDONTWRITEBYTECODE: "1",

@@ -52,7 +52,8 @@ test("the package exports what its types declare", () => {
   assert.deepEqual(Object.keys(cfgx).sort(), declared.sort());
 });
 
-test("the package has types that a program may use", { skip: needs("tsc", "the types of the package") }, () => {
+const withTypes = { skip: needs("tsc", "the types of the package") };
+test("the package has types that a program may use", withTypes, () => {
   run(join(FOLDER, "tests", "types"), "tsc", "-p", ".");
 });
 
@@ -108,7 +109,8 @@ test("the package tells what it needs", () => {
   }
 });
 
-test("npm packs a file that a program can install", { skip: needs("npm", "what npm makes of the package") }, () => {
+const withNpm = { skip: needs("npm", "what npm makes of the package") };
+test("npm packs a file that a program can install", withNpm, () => {
   const folder = mkdtempSync(join(tmpdir(), "cfgx-npm-"));
   try {
     const [packed] = JSON.parse(run(FOLDER, "npm", "pack", "--json", "--offline",

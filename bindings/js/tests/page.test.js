@@ -25,6 +25,11 @@ function triples(holds) {
 let browser;
 let page;
 
+/** Tests what the page shows. */
+function shows(name, run) {
+  test(`the page ${name}`, { skip: missing }, run);
+}
+
 /** Returns the triples of the cells that show a value, by its number. */
 async function shown(value) {
   const found = await page.see(`[...document.querySelectorAll('.cell[data-value="${value}"]')]
@@ -91,7 +96,7 @@ afterEach(async () => {
   assert.deepEqual(complaints, []);
 });
 
-test("the page shows the targets by system and processor", { skip: missing }, async () => {
+shows("shows the targets by system and processor", async () => {
   await page.write("unix");
   const systems = await page.see(`[...document.querySelectorAll(".system")].map((system) => [
     system.querySelector("h3").innerText,
@@ -110,7 +115,13 @@ test("the page shows the targets by system and processor", { skip: missing }, as
   assert.equal(new Set(systems.map(([system]) => system)).size, systems.length);
 });
 
-test("the page shows where a condition is true, in cells and counts", { skip: missing }, async () => {
+shows("says of which rustc the targets are", async () => {
+  const [, version] = /^# Targets of rustc (\S+), /.exec(read("bindings/targets/targets.tsv"));
+  const said = `on the ${TARGETS.length} targets of rustc ${version}.`;
+  assert.ok((await page.text("header")).replace(/\s+/g, " ").includes(said));
+});
+
+shows("shows where a condition is true, in cells and counts", async () => {
   await page.write('all(unix, not(target_vendor = "apple"))');
   await checkPicture(triples((one) => isUnix(one) && !isApple(one)));
   const counts = await page.see(`[...document.querySelectorAll(".system")].map((system) => [
@@ -129,7 +140,7 @@ test("the page shows where a condition is true, in cells and counts", { skip: mi
     triples((one) => !isUnix(one) || isApple(one)).length}.`);
 });
 
-test("the page takes each form in which a condition stands", { skip: missing }, async () => {
+shows("takes each form in which a condition stands", async () => {
   const forms = ["windows", "cfg(windows)", "  cfg( windows ) ", "#[cfg(windows)]",
                  "#![cfg(windows)]", "[target.'cfg(windows)'.dependencies]"];
   for (const form of forms) {
@@ -142,28 +153,30 @@ test("the page takes each form in which a condition stands", { skip: missing }, 
   assert.deepEqual(bars, forms.map(() => `${yes} yes · 0 unknown · ${320 - yes} no`));
 });
 
-test("the page underlines a fault where it is, and says what was expected", { skip: missing }, async () => {
-  const rows = [
-    ["all(unix", "(unix", "Column 4: This parenthesis is never closed. Expected: ) at the end."],
-    ["unix)", ")", "Column 5: This parenthesis closes nothing. Expected: as many ( as )."],
-    ['feature = "x', '"x', "This quote is never closed."],
-    ["any(unix, 8)", "8", "Column 11: “8” is not expected here. Expected: a name such as unix,"],
-    ["all(a b)", "b", "Expected: =, a comma or a closing parenthesis."],
-    ["not(a, b)", "not(a, b)", "This not has 2 conditions inside. Expected: one."],
-    ["not()", "not()", "This not has nothing inside. Expected: one condition."],
-    ["feature", "feature", 'Expected: a value, as in feature = "std".'],
-    ["target_os", "target_os", 'Expected: a value, as in target_os = "linux".'],
-    ['target_oss = "x"', "target_oss", "is no key of a target. Expected: target_arch,"],
-    ['unix = "x"', "x", "Expected: no value after this name."],
-    ['target_endian = "middle"', "middle", 'Expected: "big" or "little".'],
-    ['target_pointer_width = "999"', "999", "Expected: a number up to 255."],
-    ['target_has_atomic = "x"', "x", 'Expected: a number of bits, such as "64", or "ptr".'],
-    ["a, b", "a, b", "Several conditions stand side by side. Expected: one."],
-    ["key =", "=", "Something is missing. Expected: a value in quotes"],
-    ['a = "é𝄞" b', "b", "Column 11: “b” is not expected here."],
-    ['#[cfg(all(é, b))]', "é", "Column 11: “é” is not expected here."],
-  ];
-  for (const [text, faulty, words] of rows) {
+// A faulty text, what of it is underlined, and words of what is said.
+const FAULTS = [
+  ["all(unix", "(unix", "Column 4: This parenthesis is never closed. Expected: ) at the end."],
+  ["unix)", ")", "Column 5: This parenthesis closes nothing. Expected: as many ( as )."],
+  ['feature = "x', '"x', "This quote is never closed."],
+  ["any(unix, 8)", "8", "Column 11: “8” is not expected here. Expected: a name such as unix,"],
+  ["all(a b)", "b", "Expected: =, a comma or a closing parenthesis."],
+  ["not(a, b)", "not(a, b)", "This not has 2 conditions inside. Expected: one."],
+  ["not()", "not()", "This not has nothing inside. Expected: one condition."],
+  ["feature", "feature", 'Expected: a value, as in feature = "std".'],
+  ["target_os", "target_os", 'Expected: a value, as in target_os = "linux".'],
+  ['target_oss = "x"', "target_oss", "is no key of a target. Expected: target_arch,"],
+  ['unix = "x"', "x", "Expected: no value after this name."],
+  ['target_endian = "middle"', "middle", 'Expected: "big" or "little".'],
+  ['target_pointer_width = "999"', "999", "Expected: a number up to 255."],
+  ['target_has_atomic = "x"', "x", 'Expected: a number of bits, such as "64", or "ptr".'],
+  ["a, b", "a, b", "Several conditions stand side by side. Expected: one."],
+  ["key =", "=", "Something is missing. Expected: a value in quotes"],
+  ['a = "é𝄞" b', "b", "Column 11: “b” is not expected here."],
+  ['#[cfg(all(é, b))]', "é", "Column 11: “é” is not expected here."],
+];
+
+shows("underlines a fault where it is, and says what was expected", async () => {
+  for (const [text, faulty, words] of FAULTS) {
     await page.write(text);
     const underlined = await page.see(`[...document.querySelectorAll("#paint .faulty")]
       .filter((one) => getComputedStyle(one).textDecorationLine === "underline")
@@ -178,7 +191,7 @@ test("the page underlines a fault where it is, and says what was expected", { sk
   assert.equal(await page.see('document.querySelector("#text").ariaInvalid'), null);
 });
 
-test("the page paints each character below the one that is typed", { skip: missing }, async () => {
+shows("paints each character below the one that is typed", async () => {
   for (const text of ['all(a,\tb = "é𝄞日"), ', "any(\n\n  x\n", "é(", '"'.repeat(3)]) {
     await page.write(text);
     const painted = await page.see(`[...document.querySelectorAll("#paint .line")]
@@ -193,7 +206,7 @@ test("the page paints each character below the one that is typed", { skip: missi
   }
 });
 
-test("the page takes a click into its text", { skip: missing }, async () => {
+shows("takes a click into its text", async () => {
   await page.write("any(\n\n  x\n");
   const { x, y } = await page.see(`(() => {
     const { left, top } = document.querySelector("#paint .line").getBoundingClientRect();
@@ -202,7 +215,7 @@ test("the page takes a click into its text", { skip: missing }, async () => {
   assert.equal(await page.see(`document.elementFromPoint(${x}, ${y}).id`), "text");
 });
 
-test("the page keeps the picture while a fault is typed", { skip: missing }, async () => {
+shows("keeps the picture while a fault is typed", async () => {
   await page.write("windows");
   await page.press("(");
   await checkPicture(triples(isWindows));
@@ -211,7 +224,7 @@ test("the page keeps the picture while a fault is typed", { skip: missing }, asy
   assert.equal(await page.see('"stale" in document.querySelector("#picture").dataset'), false);
 });
 
-test("the page moves nothing while one types", { skip: missing }, async () => {
+shows("moves nothing while one types", async () => {
   const places = () => page.see(`["#text", "#fault", "#picture", "#cells", "#switches",
     "#comparison", "#differences", "#target"]
     .map((one) => document.querySelector(one).getBoundingClientRect().top)`);
@@ -228,7 +241,7 @@ test("the page moves nothing while one types", { skip: missing }, async () => {
   }
 });
 
-test("the page tells values apart without colour", { skip: missing }, async () => {
+shows("tells values apart without colour", async () => {
   await page.write('any(unix, all(windows, feature = "x"))');
   const forms = await page.see(`[0, 1, 2].map((value) => {
     const style = getComputedStyle(document.querySelector(\`.cell[data-value="\${value}"]\`),
@@ -247,7 +260,7 @@ test("the page tells values apart without colour", { skip: missing }, async () =
   }
 });
 
-test("the page shows a target, its facts and the tree", { skip: missing }, async () => {
+shows("shows a target, its facts and the tree", async () => {
   await page.write('cfg(any(windows, all(target_pointer_width = "64", not(feature = "x"))))');
   await choose("x86_64-unknown-linux-gnu");
   assert.equal(await page.text("#why .triple"), "x86_64-unknown-linux-gnu");
@@ -272,7 +285,22 @@ test("the page shows a target, its facts and the tree", { skip: missing }, async
   assert.match(await page.text("#why"), /^Choose a cell, /);
 });
 
-test("the page shows the two fillings of what is unknown", { skip: missing }, async () => {
+shows("shows a target within the window, wherever its cell is", async () => {
+  for (const width of [1280, 390]) {
+    await page.resize(width, 800);
+    await page.write("unix");
+    const last = await page.see('[...document.querySelectorAll(".cell")].at(-1).dataset.triple');
+    await choose(last);
+    assert.equal(await page.text("#why .triple"), last);
+    const [top, bottom, height] = await page.see(`(() => {
+      const { top, bottom } = document.querySelector("#why .verdict").getBoundingClientRect();
+      return [top, bottom, innerHeight];
+    })()`);
+    assert.ok(top >= 0 && bottom <= height, `${width}: ${top} to ${bottom} of ${height}`);
+  }
+});
+
+shows("shows the two fillings of what is unknown", async () => {
   await page.write('all(a, not(any(b, feature = "x")), unix, any(a, c))');
   await choose("x86_64-unknown-linux-gnu");
   const rows = new Map((await fillings()).map(([text, yes, no]) => [text, [yes, no]]));
@@ -287,7 +315,7 @@ test("the page shows the two fillings of what is unknown", { skip: missing }, as
   }
 });
 
-test("the page gives equal predicates one value", { skip: missing }, async () => {
+shows("gives equal predicates one value", async () => {
   await page.write('all(feature = "x", not(feature = "x"))');
   await checkPicture([]);
   await page.write('any(feature = "x", not(feature = "x"))');
@@ -302,7 +330,7 @@ test("the page gives equal predicates one value", { skip: missing }, async () =>
   assert.deepEqual([rows.get("a")[1], rows.get("b")[1]], ["off", "off"]);
 });
 
-test("the page is led by the keyboard", { skip: missing }, async () => {
+shows("is led by the keyboard", async () => {
   await page.write("unix");
   let steps = 0;
   const isCell = () => page.see('document.activeElement.classList.contains("cell")');
@@ -339,7 +367,7 @@ test("the page is led by the keyboard", { skip: missing }, async () => {
   assert.equal(await isCell(), false);
 });
 
-test("the page decides by switches", { skip: missing }, async () => {
+shows("decides by switches", async () => {
   await page.write('any(windows, all(unix, feature = "x"), test)\nall(loom, unix)');
   await page.click("#list li:first-child button");
   assert.deepEqual((await page.texts(".switch legend")).sort(), ['feature = "x"', "loom", "test"]);
@@ -361,7 +389,7 @@ test("the page decides by switches", { skip: missing }, async () => {
                `${triples(isUnix).length} yes · 0 unknown · ${320 - triples(isUnix).length} no`);
 });
 
-test("the page has switches for what some targets leave unknown, and for nothing else", { skip: missing }, async () => {
+shows("has switches for what some targets leave unknown, and for nothing else", async () => {
   await page.write('all(target_os = "linux", target_feature = "sse2", debug_assertions)');
   assert.deepEqual(await page.texts(".switch legend"), ['target_feature = "sse2"']);
   const has = (one) => one.target_os === "linux" && one.debug_assertions === "yes";
@@ -377,14 +405,13 @@ function told() {
   return page.texts("#comparison li");
 }
 
-test("the page compares two conditions", { skip: missing }, async () => {
+shows("compares two conditions", async () => {
   await page.write('target_os = "macos"\ntarget_vendor = "apple"');
   const macos = triples((one) => one.target_os === "macos");
   const apple = triples(isApple);
   const [counts, forth, back] = await told();
   const apart = apple.length - macos.length;
-  assert.equal(counts, `Their values differ on ${apart} targets, and are the same on ${
-    320 - apart}.`);
+  assert.equal(counts, `Different on ${apart} targets, the same on ${320 - apart}.`);
   assert.equal(forth, "1 implies 2: on every target, whatever the switches say.");
   const wanted = /^2 implies 1: not on every target\. On (\S+), 2 is yes and 1 is no\.$/;
   const [, triple] = wanted.exec(back);
@@ -399,7 +426,17 @@ test("the page compares two conditions", { skip: missing }, async () => {
   await checkPicture(apple);
 });
 
-test("the page compares conditions with what no target says", { skip: missing }, async () => {
+shows("names conditions by their lines", async () => {
+  await page.write("unix\n\n  \nwindows");
+  assert.deepEqual(await page.texts("#list .number"), ["1", "4"]);
+  assert.deepEqual(await page.texts("#first option"), ["1: unix", "4: windows"]);
+  assert.match((await told())[1], /^1 implies 4: not on every target/);
+  await page.click("#differences");
+  assert.equal(await page.text("#pictured"), "Where 1 and 4 differ");
+  assert.match(await page.text("#fault"), /^Line 4: true on /);
+});
+
+shows("compares conditions with what no target says", async () => {
   await page.write('target_os = "macos"\nwindows\nall(unix, feature = "x")');
   await page.choose("#second", "2");
   const unix = triples(isUnix);
@@ -408,15 +445,15 @@ test("the page compares conditions with what no target says", { skip: missing },
   const [counts, forth, back] = await told();
   assert.match(forth, new RegExp(`^1 implies 3: ${start} off, 1 is yes and 3 is no\\.$`));
   assert.match(back, new RegExp(`^3 implies 1: ${start} on, 3 is yes and 1 is no\\.$`));
-  assert.equal(counts, `Their values differ on 0 targets, and are the same on ${
-    320 - unix.length}. On ${unix.length} targets the unknown switches decide.`);
+  assert.equal(counts, `Different on 0 targets, the same on ${320 - unix.length}, ${
+    unix.length} as the switches say.`);
   await decide('feature = "x"', "on");
-  assert.match((await told())[0], new RegExp(`differ on ${unix.length - macos.length} targets`));
+  assert.match((await told())[0], new RegExp(`^Different on ${unix.length - macos.length} targets`));
   // What the switches say changes nothing in the sentences about all of them.
   assert.deepEqual((await told()).slice(1), [forth, back]);
 });
 
-test("the page compares conditions in which predicates repeat", { skip: missing }, async () => {
+shows("compares conditions in which predicates repeat", async () => {
   const equal = ["1 and 2 are equal: on every target, whatever the switches say."];
   const not = (start, end) => new RegExp(`^${start}: not on every target\\. On \\S+, ${end}\\.$`);
   const rows = [
@@ -449,7 +486,7 @@ function parityOf(names) {
   ), first);
 }
 
-test("the page says what was not tried out", { skip: missing }, async () => {
+shows("says what was not tried out", async () => {
   // Whether a number is odd does not say whether a sum of other numbers is. With few flags all of
   // their values are tried, and with many not.
   const parities = (count) => {
@@ -464,7 +501,7 @@ test("the page says what was not tried out", { skip: missing }, async () => {
   assert.deepEqual((await told()).slice(1), [`1 implies 2: ${untried}`, `2 implies 1: ${untried}`]);
 });
 
-test("the page keeps what it shows in its address", { skip: missing }, async () => {
+shows("keeps what it shows in its address", async () => {
   await page.write('any(windows, feature = "é=&#")\nunix\nall(test, unix)');
   await page.press("ArrowUp");
   await decide('feature = "é=&#"', "on");
@@ -488,7 +525,7 @@ test("the page keeps what it shows in its address", { skip: missing }, async () 
   await checkPicture(triples(isWindows));
 });
 
-test("the page copies the table and the link", { skip: missing }, async () => {
+shows("copies the table and the link", async () => {
   await browser.send("Browser.grantPermissions", {
     permissions: ["clipboardReadWrite", "clipboardSanitizedWrite"],
   });
@@ -510,7 +547,7 @@ test("the page copies the table and the link", { skip: missing }, async () => {
   assert.ok(link.startsWith(`${PAGE.href}#c=target%09unix`), link.slice(0, 200));
 });
 
-test("the page bounds what it reads", { skip: missing }, async () => {
+shows("bounds what it reads", async () => {
   await page.write(Array.from({ length: 70 }, (_, at) => `f${at}`).join("\n"));
   assert.equal((await page.texts("#list li")).length, 60);
   assert.match(await page.text("#limit"), /^Only the first 60 conditions/);
@@ -534,7 +571,7 @@ async function busy() {
   return metrics.find(({ name }) => name === "TaskDuration").value * 1000;
 }
 
-test("the page draws 20 conditions within 300 ms of a key", { skip: missing }, async () => {
+shows("draws 20 conditions within 300 ms of a key", async () => {
   const conditions = read("bench/conditions.txt").split("\n").slice(0, 19);
   await page.send("Performance.enable", { timeDomain: "threadTicks" });
   await page.write(`${conditions.join("\n")}\nfeature = "x"`);
@@ -559,7 +596,7 @@ test("the page draws 20 conditions within 300 ms of a key", { skip: missing }, a
   assert.ok(Math.min(drawn, work) <= 300, JSON.stringify({ took, worked }));
 });
 
-test("the page asks nothing of a network, and says nothing on the console", { skip: missing }, async () => {
+shows("asks nothing of a network, and says nothing on the console", async () => {
   await page.write('all(unix, feature = "x")\nunix');
   await choose("x86_64-unknown-linux-gnu");
   await decide('feature = "x"', "on");
@@ -573,7 +610,7 @@ test("the page asks nothing of a network, and says nothing on the console", { sk
   assert.equal(page.complaints.splice(0).length, 1);
 });
 
-test("the page has a policy that refuses all else", { skip: missing }, async () => {
+shows("has a policy that refuses all else", async () => {
   const policy = await page.see('document.querySelector("meta[http-equiv]").content');
   assert.match(policy, /^default-src 'none'; script-src 'sha256-[^']+' 'wasm-unsafe-eval'; /);
   assert.ok(!policy.includes("unsafe-inline") && !policy.includes(" 'unsafe-eval'"));
@@ -594,7 +631,7 @@ test("the page has a policy that refuses all else", { skip: missing }, async () 
   assert.ok(page.complaints.splice(0).every((one) => one.includes("Content Security Policy")));
 });
 
-test("the page works on a server", { skip: missing }, async () => {
+shows("works on a server", async () => {
   const bytes = await readFile(PAGE);
   const server = createServer((_, response) => {
     response.setHeader("Content-Type", "text/html");
@@ -614,7 +651,7 @@ test("the page works on a server", { skip: missing }, async () => {
   }
 });
 
-test("the page has a name for each control", { skip: missing }, async () => {
+shows("has a name for each control", async () => {
   await page.write('all(unix, feature = "x")\nunix');
   await choose("x86_64-unknown-linux-gnu");
   const { nodes } = await page.send("Accessibility.getFullAXTree");
@@ -628,7 +665,7 @@ test("the page has a name for each control", { skip: missing }, async () => {
   assert.equal(new Set(ids).size, ids.length);
 });
 
-test("the page is readable in each colour scheme and width", { skip: missing }, async () => {
+shows("is readable in each colour scheme and width", async () => {
   for (const scheme of ["light", "dark"]) {
     for (const width of [1280, 700, 320]) {
       await page.close();
