@@ -12,9 +12,9 @@ from ._attributes import (
     Attribute, Meta, attribute_at, attributes_from, following, level_tokens, list_at, meta_at, plain,
     word_at,
 )
-from ._grammar import ConditionError, Reason, Written, read_condition
+from ._grammar import ConditionError, Written, read_condition
 from ._lexer import Kind, Skim, Token, TokenError, tokens_in
-from ._model import Form
+from ._model import Form, Reason
 from ._things import SPACES, Cursor, Space, Thing, pass_arm, thing_at
 
 # How many `cfg_attr` inside of one another tell what an attribute stands on when it is there.
