@@ -78,6 +78,11 @@ TWINS = [
     ("#[cfg(a)] fn f() {} mod m { #[cfg(b)] fn f() {} }", []),
     ("#[cfg(x)] mod m { #[cfg(a)] fn f() {} #[cfg(b)] fn f() {} }", ["f: x a | x b"]),
     ("cfg_if! { if #[cfg(a)] { mod m; } else { mod m; } } mod m;", ["m: a | not(a) | "]),
+    ("cfg_if! { if #[cfg(a)] { fn f() {} } else if #[cfg(b)] { fn f() {} } else if #[cfg(c)] {"
+     " fn f() {} } else { fn f() {} } } fn g() {} #[cfg(d)] fn g() {}",
+     ["f: a | not(a) b | not(a) not(b) c | not(a) not(b) not(c)", "g:  | d"]),
+    ("cfg_select! { a => { fn f() {} } b => { fn f() {} } c => { fn f() {} } }",
+     ["f: a | not(a) b | not(a) not(b) c"]),
     ("fn f() { #[cfg(a)] const X: u8 = 1; #[cfg(b)] static X: u8 = 2; }", ["X: a | b"]),
     ("impl S { #[cfg(a)] pub fn f(&self) {} #[cfg(b)] pub unsafe fn f(&self) {} }", ["f: a | b"]),
     ("#[cfg(a)] const _: () = (); #[cfg(b)] const _: () = ();", []),

@@ -1,9 +1,12 @@
 """What conditions of code are on targets. The rows are worked out by hand, by what rustc prints of
 the targets."""
+import doctest
 import os
+import re
 import time
 import unittest
 
+from . import ROOT
 from .made import Folder
 
 from cfgx import code
@@ -196,8 +199,8 @@ class Costs(Made):
         return report, time.process_time() - start
 
     def test_deep_guards(self):
-        depth = 1_000
-        text = "".join(f"#[cfg(a{number})] mod m {{" for number in range(depth)) + "}" * depth
+        depth, long = 200, "x" * 400
+        text = "".join(f"#[cfg({long}{number})] mod m {{" for number in range(depth)) + "}" * depth
         report, seconds = self.judged_in(text)
         self.assertEqual(len(report.files[0].rows), depth)
         self.assertFalse(report.is_tried)
@@ -212,5 +215,15 @@ class Costs(Made):
         self.assertLess(seconds, 120)
 
 
-if __name__ == "__main__":
-    unittest.main()
+def load_tests(loader, tests, pattern):
+    """Adds the examples of the module and of its page to the tests."""
+    with open(os.path.join(ROOT, "docs", "CODE.md"), encoding="utf-8") as file:
+        page = "".join(re.findall(r"^```python\n(.*?)^```$", file.read(), re.M | re.S))
+    found = [doctest.DocTestParser().get_doctest(page, {}, "CODE.md", "CODE.md", 0)]
+    found += doctest.DocTestFinder().find(code, "cfgx.code", module=False, globs={})
+    examples = [one for one in found if one.examples]
+    if {one.name for one in examples} != {"CODE.md", "cfgx.code", "cfgx.code.read",
+                                          "cfgx.code.report"}:
+        raise ValueError(f"the examples are {[one.name for one in examples]}")
+    tests.addTests(map(doctest.DocTestCase, examples))
+    return tests
