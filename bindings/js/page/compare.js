@@ -59,8 +59,9 @@ function implication(one, other, { target, answers, isWhole }) {
 /** Returns the sentence that says on how many targets two conditions differ. */
 function differences(values) {
   const [same, differ, may] = countsOf(values.numbers);
-  const open = may > 0 ? `, ${may} as the switches say` : "";
-  return `Different on ${counted(differ, "target")}, the same on ${same}${open}.`;
+  const start = `Different on ${counted(differ, "target")}`;
+  return may > 0 ? `${start}, the same on ${same}, and on ${may} as the switches say.` :
+    `${start}, and the same on ${same}.`;
 }
 
 /** Returns the number of the condition that is chosen, which is there. */

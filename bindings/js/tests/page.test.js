@@ -411,7 +411,7 @@ shows("compares two conditions", async () => {
   const apple = triples(isApple);
   const [counts, forth, back] = await told();
   const apart = apple.length - macos.length;
-  assert.equal(counts, `Different on ${apart} targets, the same on ${320 - apart}.`);
+  assert.equal(counts, `Different on ${apart} targets, and the same on ${320 - apart}.`);
   assert.equal(forth, "1 implies 2: on every target, whatever the switches say.");
   const wanted = /^2 implies 1: not on every target\. On (\S+), 2 is yes and 1 is no\.$/;
   const [, triple] = wanted.exec(back);
@@ -445,7 +445,7 @@ shows("compares conditions with what no target says", async () => {
   const [counts, forth, back] = await told();
   assert.match(forth, new RegExp(`^1 implies 3: ${start} off, 1 is yes and 3 is no\\.$`));
   assert.match(back, new RegExp(`^3 implies 1: ${start} on, 3 is yes and 1 is no\\.$`));
-  assert.equal(counts, `Different on 0 targets, the same on ${320 - unix.length}, ${
+  assert.equal(counts, `Different on 0 targets, the same on ${320 - unix.length}, and on ${
     unix.length} as the switches say.`);
   await decide('feature = "x"', "on");
   assert.match((await told())[0], new RegExp(`^Different on ${unix.length - macos.length} targets`));
