@@ -9,8 +9,8 @@ from bisect import bisect_right
 from typing import Dict, Iterable, Iterator, List, NamedTuple, Optional, Sequence, Set, Tuple
 
 from ._attributes import (
-    Attribute, Meta, attribute_at, attributes_from, following, level_tokens, list_at, meta_at, plain,
-    word_at,
+    Attribute, Meta, attribute_at, attributes_from, following, level_tokens, list_at, meta_at,
+    plain, word_at,
 )
 from ._grammar import ConditionError, Written, read_condition
 from ._lexer import Kind, Skim, Token, TokenError, tokens_in
@@ -278,11 +278,11 @@ class Reading:
         another one. Only the macro knows what a variable there stands for."""
         first, behind = following(self.text, start), following(self.text, place)
         start = place if first is None else min(first.start, place)
-        inside = self.text[start:place].rstrip(BLANK)
-        is_variable = word_at(self.text, behind) == "$" or VARIABLE.search(inside) is not None
-        reason = Reason.VARIABLE if is_variable else Reason.UNEXPECTED
-        if not inside or place == start or word_at(self.text, behind) == "]" and inside in ATTRIBUTES:
-            reason = Reason.VARIABLE if is_variable else Reason.ROOTS
+        inside, word = self.text[start:place].rstrip(BLANK), word_at(self.text, behind)
+        is_empty = not inside or word == "]" and inside in ATTRIBUTES
+        reason = Reason.ROOTS if is_empty else Reason.UNEXPECTED
+        if word == "$" or VARIABLE.search(inside):
+            reason = Reason.VARIABLE
         error = ConditionError(reason, place, place if behind is None else behind.end)
         found = Found(form, is_inner, start, start + len(inside), None, error, guard)
         self.conditions.append(found)
