@@ -20,6 +20,8 @@ class Processors(Shown):
         self.variables["CARGO_TARGET_DIR"] = os.path.join(self.folder, "target")
         self.variables["RUSTC"] = os.environ["CFGX_RUSTC"]
         self.variables["debian"] = os.environ["CFGX_ARM64"]
+        # Outside of an environment of its own, pip would warn the user root.
+        self.variables["PIP_ROOT_USER_ACTION"] = "ignore"
         for section in ("From Python", "From Rust", "On 64-bit ARM"):
             self.check(section)
 

@@ -97,8 +97,8 @@ class Archives(unittest.TestCase):
         for name, wanted in ((C, c), (RUST, rust)):
             found = {path[len(name) + 1:] for path in files_of(name)}
             others = {path for path in found
-                      if path.endswith((".md", ".png")) or path in LICENSES or path.startswith("cfg-expr/LIC")
-                      or path == "cfg-expr/NOTICE"}
+                      if path.endswith((".md", ".png")) or path in LICENSES
+                      or path.startswith(("cfg-expr/LIC", "cfg-expr/NOTICE"))}
             self.assertEqual(sorted(found - others), sorted({*wanted} - others))
 
     def test_the_code_is_that_of_the_commit(self):

@@ -115,6 +115,8 @@ class Families(User):
         variables = {"WINEDEBUG": "-all", "WINEPREFIX": os.path.join(self.folder, "wine"),
                      "LC_ALL": "C.UTF-8"}
         source = os.path.join(top, "examples/predicates.c")
+        # The first program also shows what wine says of the folder that it makes.
+        self.succeed(wine, os.path.join(top, "bin/cfgx.exe"), "parse", "a", **variables)
         self.check_runs(wine, os.path.join(top, "bin/cfgx.exe"), **variables)
         compiler = ("x86_64-w64-mingw32-gcc",)
         self.check_example(compiler, source, (f"{libraries}/libcfgx.a",), wine, **variables)

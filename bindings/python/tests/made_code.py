@@ -62,13 +62,15 @@ class Maker:
         """Returns an attribute, mostly with a condition."""
         mark = ["!"] if is_inner else []
         if self.is_so(0.2):
-            return self.joined("#", *mark, "[", self.pick(["inline", "must_use", "rustfmt::skip"]), "]")
+            name = self.pick(["inline", "must_use", "rustfmt::skip"])
+            return self.joined("#", *mark, "[", name, "]")
         return self.joined("#", *mark, "[", self.meta(2), "]")
 
     def meta(self, depth: int) -> str:
         """Returns what an attribute with a condition says."""
         if depth > 0 and self.is_so(0.35):
-            metas = [self.meta(depth - 1) if self.is_so(0.6) else self.pick(["inline", 'doc = "cfg"'])
+            others = ["inline", 'doc = "cfg"']
+            metas = [self.meta(depth - 1) if self.is_so(0.6) else self.pick(others)
                      for _ in range(int(self._random.random() * 3))]
             inside = [token for one in metas for token in (",", one)] or [","]
             name = self.pick(["cfg_attr", "cfg_attr", "r#cfg_attr"])
@@ -91,7 +93,8 @@ class Maker:
             return self.attribute()
         if self.is_so(0.2):
             return self.macro()
-        return self.pick([*LITERALS, *LIFETIMES, *NAMES, "#", "!", "->", "=>", "::", "//x\n", ",", ";"])
+        marks = ["#", "!", "->", "=>", "::", "//x\n", ",", ";"]
+        return self.pick([*LITERALS, *LIFETIMES, *NAMES, *marks])
 
     def macro(self) -> str:
         """Returns a macro with a condition."""

@@ -83,13 +83,15 @@ class Rows(Shell):
         setting = " ".join(f"{name}='{value}'" for name, value in variables.items())
         printed = self.output_of(f"{setting} {command} --no-other-cfg --format tsv", folder)
         head, *lines = [line.split("\t") for line in printed.splitlines()]
-        units = self.graph_of(path, *head[5:-1], folder=folder, **self.for_cargo(words, given))
+        end = head.index("condition")
+        units = self.graph_of(path, *head[5:end], folder=folder, **self.for_cargo(words, given))
         self.assertGreater(len(lines), 0)
-        for package, name, kind, is_optional, *values, condition in lines:
+        for line in lines:
+            package, name, kind, is_optional, *values, condition = line[:end + 1]
             dependency = manifest.Dependency(
                 package, name, None, kind, is_optional == "yes", condition or None
             )
-            for triple, value in zip(head[4:-1], values):
+            for triple, value in zip(head[4:end], values):
                 wanted = value_in(units, dependency, triple, is_alone=len(values) == 1)
                 self.assertEqual((name, triple, value), (name, triple, wanted.value))
 

@@ -50,13 +50,15 @@ class Statuses(Made):
             status, stdout, stderr = self.command("--fail-on", word, "one.rs")
             self.assertEqual((status, stderr.count("\n")), (1, 1), stderr)
             self.assertTrue(stderr.startswith(f"cfgx-code: {line}: "), stderr)
-            self.assertIn("one.rs:1:7: never\n1 | #[cfg(all(unix, windows))]\n  |       ^^^^", stdout)
+            shown = "one.rs:1:7: never\n1 | #[cfg(all(unix, windows))]\n  |       ^^^^"
+            self.assertIn(shown, stdout)
 
     def test_wrong_use(self):
         self.write("one.rs", "")
         self.write("empty.txt", "# nothing\n")
         for words, message in (
-            (["--none"], "--none"), (["--target", "x-y-z"], "x-y-z"), (["no.rs"], "there is no no.rs"),
+            (["--none"], "--none"), (["--target", "x-y-z"], "x-y-z"),
+            (["no.rs"], "there is no no.rs"),
             (["--only", "maybe"], "--only takes"), (["--fail-on", "two"], "--fail-on takes"),
             (["--ci", "empty.txt"], "lists no target"), (["--ci", "no.txt"], "cannot be read"),
             (["--format", "sarif", "--summary"], "sarif"), (["--cfg", "a=b"], "no flag"),
@@ -158,8 +160,8 @@ class Formats(Made):
                 self.fitting(one, schema["items"], f"{where}[{number}]")
 
     def test_json(self):
-        self.write("one.rs", CODE + "#[cfg(unix)] fn h() {} fn h() {} #[cfg(version(\"1\"))] fn i() {}"
-                   '#[cfg(feature = "x")] mod m { cfg_if! { if #[cfg(unix)] {} } }')
+        self.write("one.rs", CODE + "#[cfg(unix)] fn h() {} fn h() {} #[cfg(version(\"1\"))]"
+                   ' fn i() {} #[cfg(feature = "x")] mod m { cfg_if! { if #[cfg(unix)] {} } }')
         with open(SCHEMA, encoding="utf-8") as file:
             schema = json.load(file)
         self.assertEqual(json.loads(self.command("--schema")[1]), schema)
@@ -169,7 +171,8 @@ class Formats(Made):
         found = json.loads(self.command("--format", "json", "--target",
                                         "x86_64-unknown-linux-gnu")[1])
         one, two, *_ = found["files"][0]["conditions"]
-        self.assertEqual((one["is"], one["values"], one["line"], one["start"]), ("never", ["no"], 1, 6))
+        told = one["is"], one["values"], one["line"], one["start"]
+        self.assertEqual(told, ("never", ["no"], 1, 6))
         self.assertEqual((two["is"], two["values"], two["problem"]["reason"]),
                          ("faulty", None, "MEMBERS"))
         self.assertEqual(found["files"][0]["groups"][0]["two"]["values"], ["yes"])

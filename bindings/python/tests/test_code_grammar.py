@@ -22,7 +22,8 @@ TAKEN = [
                                                'any(unix, feature = "x")'),
     ("all(a, // c\n b)", "all(a, b)"), ("any(all(a), not(b))", "any(all(a), not(b))"),
     ('feature="x"', 'feature = "x"'), ('a=r#"x"#', 'a = "x"'), ('a="\\u{62}"', 'a = "b"'),
-    ('a="\\x41"', 'a = "A"'), ('a="a\\\n  b"', 'a = "ab"'), ('a="\\u{1_F6_00}"', 'a = "\U0001f600"'),
+    ('a="\\x41"', 'a = "A"'), ('a="a\\\n  b"', 'a = "ab"'),
+    ('a="\\u{1_F6_00}"', 'a = "\U0001f600"'),
     ('a=""', 'a = ""'), ('a="\\t\\\\"', 'a = "\t\\"'), ('a="\u00e9"', 'a = "\u00e9"'),
     ('r#true="x"', 'true = "x"'), ('not="x"', 'not = "x"'), ('all="x"', 'all = "x"'),
     # RULES calls these faulty.
@@ -56,14 +57,15 @@ REFUSED = [
 ]
 # What is not read, why, and whether a stable rustc takes it.
 NOT_READ = [
-    ('a="x\\"y"', Reason.QUOTE, True), ('a=r#"""#', Reason.QUOTE, True), ("\u00e9", Reason.NAME, True),
+    ('a="x\\"y"', Reason.QUOTE, True), ('a=r#"""#', Reason.QUOTE, True),
+    ("\u00e9", Reason.NAME, True),
     ("r#true", Reason.NAME, True), ("not", Reason.NAME, True), ("all", Reason.NAME, True),
     ('version("1.50")', Reason.FUNCTION, False), ("accessible(std::x)", Reason.FUNCTION, False),
     ('target(os = "linux")', Reason.FUNCTION, False),
 ]
 # What only a nightly rustc takes. It is read.
-NIGHTLY = ["target_thread_local", 'target_has_atomic_load_store="8"', "overflow_checks", "ub_checks",
-           'relocation_model="pic"', 'sanitize="address"', "version"]
+NIGHTLY = ["target_thread_local", 'target_has_atomic_load_store="8"', "overflow_checks",
+           "ub_checks", 'relocation_model="pic"', 'sanitize="address"', "version"]
 # Attributes and macros that rustc refuses for their form, and those that it takes.
 FORMS = [
     ("#[cfg] fn f() {}", Reason.ROOTS), ('#[cfg = "x"] fn f() {}', Reason.UNEXPECTED),

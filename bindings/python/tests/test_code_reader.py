@@ -36,7 +36,8 @@ ROWS = [
     ("struct S { #[cfg(a)] x: A<B, C>, #[cfg(b)] y: u8 } fn f() { cfg!(c); }",
      ["cfg a {}", "cfg b {}", "cfg! c {}"]),
     ("fn f() { S { #[cfg(a)] x: p < q, y: cfg!(b) } }", ["cfg a {}", "cfg! b {}"]),
-    ("enum E { #[cfg(a)] A { #[cfg(b)] x: u8 }, #[cfg(c)] B }", ["cfg a {}", "cfg b {a}", "cfg c {}"]),
+    ("enum E { #[cfg(a)] A { #[cfg(b)] x: u8 }, #[cfg(c)] B }",
+     ["cfg a {}", "cfg b {a}", "cfg c {}"]),
     ("fn f<#[cfg(a)] T, U>(#[cfg(b)] x: T, y: U) { cfg!(c); }",
      ["cfg a {}", "cfg b {}", "cfg! c {}"]),
     ("#[cfg(a)] const X: bool = cfg!(b); const Y: bool = cfg!(c);",
@@ -45,8 +46,8 @@ ROWS = [
      ["cfg a {}", "cfg! b {a}", "cfg! c {}"]),
     ("#[cfg(a)] m!(cfg!(b)); #[cfg(c)] m! { cfg!(d) } fn f() { cfg!(e); }",
      ["cfg a {}", "cfg! b {a}", "cfg c {}", "cfg! d {c}", "cfg! e {}"]),
-    ("#[cfg(a)] unsafe extern \"C\" { fn f(); } #[cfg(b)] pub(crate) const unsafe fn g() { cfg!(c); }"
-     " fn h() { cfg!(d); }", ["cfg a {}", "cfg b {}", "cfg! c {b}", "cfg! d {}"]),
+    ("#[cfg(a)] unsafe extern \"C\" { fn f(); } #[cfg(b)] pub(crate) const unsafe fn g()"
+     " { cfg!(c); } fn h() { cfg!(d); }", ["cfg a {}", "cfg b {}", "cfg! c {b}", "cfg! d {}"]),
     # Several attributes on one item hold together.
     ("#[cfg(a)] #[inline] /// doc\n #[cfg(b)] fn f() { cfg!(c); } fn g() { cfg!(d); }",
      ["cfg a {}", "cfg b {a}", "cfg! c {a, b}", "cfg! d {}"]),
@@ -67,8 +68,9 @@ ROWS = [
     ("fn f() { cfg_select! { a => if x { 1 } else { cfg!(b) } _ => cfg!(c) }; cfg!(d); }",
      ["cfg_select! a {}", "cfg! b {a}", "cfg! c {not(a)}", "cfg! d {}"]),
     # What looks like a condition and is none.
-    ("// #[cfg(a)]\n/* cfg!(b) */ const S: &str = \"#[cfg(c)]\"; const C: char = '\"'; fn f<'a>() {}"
-     " #[doc = r#\"cfg!(d) \"# ] #[xcfg(e)] fn g() { cfg_(f); cfg != x; acfg!(h); }", []),
+    ("// #[cfg(a)]\n/* cfg!(b) */ const S: &str = \"#[cfg(c)]\"; const C: char = '\"'; fn"
+     " f<'a>() {} #[doc = r#\"cfg!(d) \"# ] #[xcfg(e)] fn g() { cfg_(f); cfg != x; acfg!(h);"
+     " }", []),
 ]
 # Code, and the names that stand there several times, with the guards of each.
 TWINS = [
@@ -78,6 +80,11 @@ TWINS = [
     ("#[cfg(a)] fn f() {} mod m { #[cfg(b)] fn f() {} }", []),
     ("#[cfg(x)] mod m { #[cfg(a)] fn f() {} #[cfg(b)] fn f() {} }", ["f: x a | x b"]),
     ("cfg_if! { if #[cfg(a)] { mod m; } else { mod m; } } mod m;", ["m: a | not(a) | "]),
+    ("cfg_if! { if #[cfg(a)] { fn f() {} } else if #[cfg(b)] { fn f() {} } else if #[cfg(c)] {"
+     " fn f() {} } else { fn f() {} } } fn g() {} #[cfg(d)] fn g() {}",
+     ["f: a | not(a) b | not(a) not(b) c | not(a) not(b) not(c)", "g:  | d"]),
+    ("cfg_select! { a => { fn f() {} } b => { fn f() {} } c => { fn f() {} } }",
+     ["f: a | not(a) b | not(a) not(b) c"]),
     ("fn f() { #[cfg(a)] const X: u8 = 1; #[cfg(b)] static X: u8 = 2; }", ["X: a | b"]),
     ("impl S { #[cfg(a)] pub fn f(&self) {} #[cfg(b)] pub unsafe fn f(&self) {} }", ["f: a | b"]),
     ("#[cfg(a)] const _: () = (); #[cfg(b)] const _: () = ();", []),
@@ -122,7 +129,8 @@ class Reading(unittest.TestCase):
     def test_what_follows_an_end_is_not_read(self):
         code = read('#[cfg(a)] fn f() {}\nconst X: &str = r#"#[cfg(b)] "; #[cfg(c)] fn g() {}')
         self.assertEqual([one.text for one in code.conditions], ["a"])
-        self.assertEqual((code.unread, code.unread_from[:2]), ("a raw string does not end", (2, 19)))
+        told = code.unread, code.unread_from[:2]
+        self.assertEqual(told, ("a raw string does not end", (2, 19)))
 
     def test_modules(self):
         [one, other] = read('#[cfg(a)] #[path = "x.rs"] mod m;\nmod n { mod o; } mod p {}').modules

@@ -1,9 +1,11 @@
 """What conditions of code are on targets. The rows are worked out by hand, by what rustc prints of
 the targets."""
+import doctest
 import os
+import re
 import time
-import unittest
 
+from . import ROOT
 from .made import Folder
 
 from cfgx import code
@@ -22,14 +24,16 @@ ROWS = [
     ('target_family = "wasm"', "platforms", "nnny"), ("not(target_os)", "always", "yyyy"),
     ('unix = "x"', "never", "nnnn"), ('target_pointer_width = "32"', "platforms", "nnny"),
     ('target_pointer_width = "032"', "never", "nnnn"), ('target_endian = "big"', "never", "nnnn"),
-    ('target_has_atomic = "64"', "always", "yyyy"), ('target_vendor = "apple"', "platforms", "nynn"),
+    ('target_has_atomic = "64"', "always", "yyyy"),
+    ('target_vendor = "apple"', "platforms", "nynn"),
     ('target_arch = "aarch64"', "platforms", "nynn"), ('target_abi = ""', "always", "yyyy"),
     # What another build may set or not.
     ('feature = "x"', "depends", "????"), ("test", "depends", "????"), ("loom", "depends", "????"),
     ("debug_assertions", "depends", "????"), ('panic = "abort"', "depends", "????"),
     ('target_feature = "sse2"', "depends", "????"), ("target_thread_local", "depends", "????"),
     ('target_foo = "x"', "depends", "????"), ("proc_macro", "depends", "????"),
-    ('all(unix, feature = "x")', "depends", "??nn"), ('any(unix, feature = "x")', "depends", "yy??"),
+    ('all(unix, feature = "x")', "depends", "??nn"),
+    ('any(unix, feature = "x")', "depends", "yy??"),
     # Equal predicates have one value.
     ('any(feature = "x", not(feature = "x"))', "always", "yyyy"),
     ("all(a, not(a))", "never", "nnnn"), ("all(any(a, b), not(a), not(b))", "never", "nnnn"),
@@ -41,15 +45,17 @@ CODES = [
      ["platforms", "never", "always"]),
     ("#[cfg(all(unix, windows))] mod m { #[cfg(unix)] fn f() {} }", ["never", "never 0"]),
     ("#[cfg(unix)] #[cfg(windows)] fn f() {}", ["platforms", "never"]),
-    ("cfg_if! { if #[cfg(unix)] { } else if #[cfg(target_os = \"linux\")] { } else { cfg!(windows); } }",
+    ("cfg_if! { if #[cfg(unix)] { } else if #[cfg(target_os = \"linux\")] { } else {"
+     " cfg!(windows); } }",
      ["platforms", "never", "platforms"]),
     ("#[cfg_attr(unix, cfg(windows))] fn f() { cfg!(windows); cfg!(unix); }",
      ["platforms", "never", "platforms", "never"]),
-    ("#[cfg(feature = \"x\")] mod m { #[cfg(feature = \"x\")] fn f() {} #[cfg(not(feature = \"x\"))]"
-     " fn g() {} }", ["depends", "always", "never"]),
+    ("#[cfg(feature = \"x\")] mod m { #[cfg(feature = \"x\")] fn f() {}"
+     " #[cfg(not(feature = \"x\"))] fn g() {} }", ["depends", "always", "never"]),
     ("macro_rules! m { ($x:meta) => { #[cfg($x)] mod a { #[cfg(unix)] fn f() {} } } }",
      ["not read", "platforms partial"]),
-    ("#[cfg(not(a, b))] mod m { #[cfg(all(unix, windows))] fn f() {} }", ["faulty", "never partial"]),
+    ("#[cfg(not(a, b))] mod m { #[cfg(all(unix, windows))] fn f() {} }",
+     ["faulty", "never partial"]),
 ]
 # Code, and on which of the four targets none and two of its first group are taken.
 GROUPS = [
@@ -80,8 +86,9 @@ class Made(Folder):
 
     def report(self, *targets, **files):
         """Returns the report on files by their names, without the ends."""
-        paths = [self.write(f"src/{name.replace('__', '/')}.rs", text) for name, text in files.items()]
-        return code.report([os.path.join(self.folder, "src")], targets or FOUR) if paths else None
+        for name, text in files.items():
+            self.write(f"src/{name.replace('__', '/')}.rs", text)
+        return code.report([os.path.join(self.folder, "src")], targets or FOUR)
 
     def rows(self, text):
         """Returns the conditions of a text, and what belongs together in it."""
@@ -116,7 +123,8 @@ class Values(Made):
                 self.assertEqual((shown(group.none), shown(group.two)), (none, two))
 
     def test_no_group_lacks_a_branch_that_is_always_there(self):
-        for text in ("cfg_if! { if #[cfg(unix)] {} else {} }", "cfg_select! { unix => {} _ => {} }"):
+        for text in ("cfg_if! { if #[cfg(unix)] {} else {} }",
+                     "cfg_select! { unix => {} _ => {} }"):
             [group] = self.rows(text)[1]
             self.assertIsNone(group.none)
 
@@ -130,8 +138,8 @@ class Values(Made):
 
     def test_flags(self):
         path = self.write("one.rs", '#[cfg(a)] fn f() {} #[cfg(b)] fn g() {} #[cfg(feature = "c")]'
-                          ' fn h() {} #[cfg(debug_assertions)] fn i() {} #[cfg(target_feature = "d")]'
-                          " fn j() {}")
+                          " fn h() {} #[cfg(debug_assertions)] fn i() {}"
+                          ' #[cfg(target_feature = "d")] fn j() {}')
         flags = ["a", 'feature="c"', 'target_feature="d"']
         report = code.report([path], [LINUX], flags=flags)
         self.assertEqual([shown(row.answer) for row in report.files[0].rows], list("y?y?y"))
@@ -143,7 +151,8 @@ class Values(Made):
         path = self.write("one.rs", "#[cfg(unix)] fn f() {}")
         [file] = code.report([path]).files
         # As the page MANIFESTS counts them.
-        self.assertEqual((file.rows[0].answer.on.count(True), len(file.rows[0].answer.on)), (202, 320))
+        on = file.rows[0].answer.on
+        self.assertEqual((on.count(True), len(on)), (202, 320))
 
     def test_facts(self):
         path = self.write("one.rs", "#[cfg(unix)] fn f() {} #[cfg(target_thread_local)] fn g() {}")
@@ -178,8 +187,8 @@ class Files(Made):
 
     def test_a_file_of_two_modules(self):
         report = self.report(
-            lib='#[cfg(windows)] #[path = "x.rs"] mod a; #[cfg(target_os = "linux")] #[path = "x.rs"]'
-                " mod b;", x="#[cfg(unix)] fn f() {}",
+            lib='#[cfg(windows)] #[path = "x.rs"] mod a;'
+                ' #[cfg(target_os = "linux")] #[path = "x.rs"] mod b;', x="#[cfg(unix)] fn f() {}",
         )
         [file] = [file for file in report.files if file.path.endswith("x.rs")]
         self.assertEqual(file.context, ('any(windows, target_os = "linux")',))
@@ -196,8 +205,8 @@ class Costs(Made):
         return report, time.process_time() - start
 
     def test_deep_guards(self):
-        depth = 1_000
-        text = "".join(f"#[cfg(a{number})] mod m {{" for number in range(depth)) + "}" * depth
+        depth, long = 200, "x" * 400
+        text = "".join(f"#[cfg({long}{number})] mod m {{" for number in range(depth)) + "}" * depth
         report, seconds = self.judged_in(text)
         self.assertEqual(len(report.files[0].rows), depth)
         self.assertFalse(report.is_tried)
@@ -212,5 +221,15 @@ class Costs(Made):
         self.assertLess(seconds, 120)
 
 
-if __name__ == "__main__":
-    unittest.main()
+def load_tests(loader, tests, pattern):
+    """Adds the examples of the module and of its page to the tests."""
+    with open(os.path.join(ROOT, "docs", "CODE.md"), encoding="utf-8") as file:
+        page = "".join(re.findall(r"^```python\n(.*?)^```$", file.read(), re.M | re.S))
+    found = [doctest.DocTestParser().get_doctest(page, {}, "CODE.md", "CODE.md", 0)]
+    found += doctest.DocTestFinder().find(code, "cfgx.code", module=False, globs={})
+    examples = [one for one in found if one.examples]
+    if {one.name for one in examples} != {"CODE.md", "cfgx.code", "cfgx.code.read",
+                                          "cfgx.code.report"}:
+        raise ValueError(f"the examples are {[one.name for one in examples]}")
+    tests.addTests(map(doctest.DocTestCase, examples))
+    return tests

@@ -244,7 +244,8 @@ class Statuses(Made):
         self.list(dependency_of("é日", "cfg(unix)"))
         found = self.command(PYTHONUTF8="0", PYTHONIOENCODING="ascii")
         self.assertEqual((found[0], found[2]), (0, ""))
-        self.assertIn("\n\\xe9\\u65e5          yes   cfg(unix)\n", found[1])
+        # The column has room for the name as a terminal shows it: three cells of ten.
+        self.assertIn("\n\\xe9\\u65e5" + " " * 9 + "yes   cfg(unix)\n", found[1])
 
     def test_memory_that_is_refused(self):
         for error, status in ((MemoryError(), 3), (KeyboardInterrupt(), 130)):
@@ -402,7 +403,9 @@ class Terminal(Made):
         self.assertIn(SHOWN[2:], message)
 
     def test_a_width(self):
-        self.list(dependency_of("a", f"cfg({'x' * 200})"))
+        """A condition is cut, and an explanation is wrapped where it has a blank."""
+        flags = [letter * 20 for letter in "abcdefgh"]
+        self.list(dependency_of("a", f"cfg(all({', '.join(flags)}))"))
         script = "import pty, sys; sys.exit(pty.spawn(sys.argv[1:]) >> 8)"
         for words, is_cut in ([], True), (["--wide"], False):
             start = ["-c", script, sys.executable, self.script]
@@ -410,7 +413,8 @@ class Terminal(Made):
             self.assertEqual((status, message), (0, ""))
             longest = max(map(len, output.splitlines()))
             self.assertEqual(longest <= 70, is_cut, output)
-
+            for flag in flags:
+                self.assertIn(f" {flag}", output.split("\nunknown:")[1])
 
     def test_notes(self):
         os.rename(self.audited, f"{self.audited}{HOSTILE}")

@@ -42,7 +42,7 @@ def expect_fit(words: argparse.Namespace) -> None:
         if wrong:
             raise RequestError(f"{option} takes {', '.join(known)}, and not {wrong[0]}")
     if words.format == "sarif" and (words.summary or words.only):
-        raise RequestError("--format sarif lists what is found: it takes no --summary and no --only")
+        raise RequestError("--format sarif lists what is found, without --summary and --only")
 
 
 def targets_of(words: argparse.Namespace) -> List[str]:

@@ -1,5 +1,5 @@
-//! `build.rs` for each target of rustc: which archive it links, where it looks for that, and what it
-//! says where there is none.
+//! `build.rs` for each target of rustc: which archive it links, where it looks for that, and what
+//! it says where there is none.
 
 use super::script::{self, NOT_FOUND, command_in, compiled, make_room, printed_by, told};
 use super::{child, programs};

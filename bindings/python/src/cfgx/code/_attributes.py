@@ -1,7 +1,11 @@
 """Attributes, and the conditions in them."""
+import re
 from typing import Iterator, List, NamedTuple, Optional, Sequence, Tuple
 
-from ._lexer import Kind, Skim, Token, next_token
+from ._lexer import SPACE, Kind, Skim, Token, next_token
+
+# White space in front of what is neither an attribute nor a comment.
+NO_ATTRIBUTE = re.compile(rf"[{SPACE}]*(?=[^#/{SPACE}])")
 
 
 class Attribute(NamedTuple):
@@ -62,6 +66,9 @@ def attributes_from(skim: Skim, place: int, end: int) -> Tuple[List[Attribute], 
     """Returns the attributes from a place on that stand on the same, and the place of the token
     behind them."""
     found: List[Attribute] = []
+    other = NO_ATTRIBUTE.match(skim.text, place)
+    if other is not None and other.end() < end:
+        return found, other.end()
     while place < end:
         token, behind = next_token(skim.text, place)
         if token is None or token.kind is Kind.DOC:

@@ -83,11 +83,12 @@ def below(folder: str) -> Iterator[Union[str, Passed]]:
             continue
         folders: List[str] = []
         for name in names:
-            path = os.path.join(here, name)
+            path = name if here == os.curdir else os.path.join(here, name)
             is_folder = os.path.isdir(path)
             if is_folder and name.startswith(HIDDEN) or not is_folder and not name.endswith(END):
                 continue
-            if os.path.islink(path) and not os.path.realpath(path).startswith(top):
+            real = os.path.join(os.path.realpath(path), "")
+            if os.path.islink(path) and not real.startswith(top):
                 yield Passed(path, "a link leads out of the folder")
             elif is_folder:
                 folders.append(path)

@@ -55,7 +55,7 @@ def summary_entry(file: File) -> Dict[str, Any]:
 
 def file_entry(file: File, only: Sequence[str], answered: Answered) -> Dict[str, Any]:
     """Returns the object of a file."""
-    unread = None
+    unread: Optional[Dict[str, Any]] = None
     if file.code.unread is not None and file.code.unread_from is not None:
         unread = {"message": file.code.unread, **place_members(file.code.unread_from)}
     return {
@@ -68,7 +68,7 @@ def file_entry(file: File, only: Sequence[str], answered: Answered) -> Dict[str,
 def row_entry(row: Row, answered: Answered) -> Dict[str, Any]:
     """Returns the object of a condition."""
     one = row.condition
-    problem = None
+    problem: Optional[Dict[str, Any]] = None
     if one.problem is not None:
         problem = {"reason": one.problem.reason.name, "message": one.problem.reason.value,
                    **place_members(one.problem.place)}
@@ -99,7 +99,7 @@ def group_entry(row: GroupRow, answered: Answered) -> Dict[str, Any]:
     }
 
 
-def place_members(place: Place) -> Dict[str, int]:
+def place_members(place: Place) -> Dict[str, Any]:
     """Returns the members of a place."""
     return dict(place._asdict())
 

@@ -1,8 +1,8 @@
 """Conditions from the tokens of Rust.
 
-rustc reads a condition as tokens: `any(unix, /* c */ feature = r"x")` is one to it. `read_condition`
-makes the text of it that the engine reads: without comments, with the value of each string, and
-with the name of each raw identifier. It refuses what rustc refuses.
+rustc reads a condition as tokens: `any(unix, /* c */ feature = r"x")` is one to it.
+`read_condition` makes the text of it that the engine reads: without comments, with the value of
+each string, and with the name of each raw identifier. It refuses what rustc refuses.
 """
 import dataclasses
 import re
@@ -18,9 +18,10 @@ LITERALS = ("true", "false")
 # Words that are no names to rustc in any edition. `async`, `await`, `dyn` and `try` are names in
 # Rust 2015 alone, and `gen` is one before Rust 2024.
 KEYWORDS = frozenset(
-    "_ as break const continue crate else enum extern fn for if impl in let loop match mod move mut"
-    " pub ref return self Self static struct super trait type unsafe use where while abstract become"
-    " box do final macro override priv typeof unsized virtual yield async await dyn try".split()
+    "_ as break const continue crate else enum extern fn for if impl in let loop match mod move"
+    " mut pub ref return self Self static struct super trait type unsafe use where while abstract"
+    " become box do final macro override priv typeof unsized virtual yield async await dyn try"
+    .split()
 )
 # What is no identifier even behind `r#`.
 NEVER_RAW = ("_", "crate", "self", "Self", "super")

@@ -245,8 +245,8 @@ class Skim:
         """Goes over the text. Stops where it has no tokens, or where a delimiter is closed that is
         not open, and keeps the reason."""
         self.text = text
-        # The groups in the order of their starts: where each begins and ends. An end is the place of
-        # the delimiter, or that of the end of the text.
+        # The groups in the order of their starts: where each begins and ends. An end is the place
+        # of the delimiter, or that of the end of the text.
         self.starts, self.ends = array("q"), array("q")
         # Where `#` and the names of macros stand, and the numbers of the groups around them.
         self.pounds: List[Tuple[int, int]] = []

@@ -2,7 +2,7 @@
 import dataclasses
 import enum
 from bisect import bisect_right
-from typing import Iterator, List, NamedTuple, Optional, Sequence, Tuple
+from typing import Dict, Iterator, NamedTuple, Optional, Sequence, Tuple
 
 
 class Form(enum.Enum):
@@ -129,7 +129,8 @@ class Condition:
         """Returns where the characters from `start` up to but not including `end` of the text stand
         in the file, or `None` if there are none such."""
         first = bisect_right([one.start for one in self.pieces], start) - 1
-        touched = [one.place for one in self.pieces[max(first, 0):] if one.start < max(end, start + 1)]
+        last = max(end, start + 1)
+        touched = [one.place for one in self.pieces[max(first, 0):] if one.start < last]
         if not touched:
             return None
         return touched[0]._replace(
@@ -208,7 +209,7 @@ class Places:
     def __init__(self, text: str, characters: Sequence[int], mark: str) -> None:
         """Goes over the text once for all these characters. A mark of the byte order at the start
         of the text has no column."""
-        self._found = {}
+        self._found: Dict[int, Tuple[int, int, int]] = {}
         line, byte, before = 1, 0, 0
         line_start = len(mark) if text.startswith(mark) else 0
         is_ascii = text.isascii()

@@ -9,12 +9,12 @@ from bisect import bisect_right
 from typing import Dict, Iterable, Iterator, List, NamedTuple, Optional, Sequence, Set, Tuple
 
 from ._attributes import (
-    Attribute, Meta, attribute_at, attributes_from, following, level_tokens, list_at, meta_at, plain,
-    word_at,
+    Attribute, Meta, attribute_at, attributes_from, following, level_tokens, list_at, meta_at,
+    plain, word_at,
 )
-from ._grammar import ConditionError, Reason, Written, read_condition
+from ._grammar import ConditionError, Written, read_condition
 from ._lexer import Kind, Skim, Token, TokenError, tokens_in
-from ._model import Form
+from ._model import Form, Reason
 from ._things import SPACES, Cursor, Space, Thing, pass_arm, thing_at
 
 # How many `cfg_attr` inside of one another tell what an attribute stands on when it is there.
@@ -278,11 +278,11 @@ class Reading:
         another one. Only the macro knows what a variable there stands for."""
         first, behind = following(self.text, start), following(self.text, place)
         start = place if first is None else min(first.start, place)
-        inside = self.text[start:place].rstrip(BLANK)
-        is_variable = word_at(self.text, behind) == "$" or VARIABLE.search(inside) is not None
-        reason = Reason.VARIABLE if is_variable else Reason.UNEXPECTED
-        if not inside or place == start or word_at(self.text, behind) == "]" and inside in ATTRIBUTES:
-            reason = Reason.VARIABLE if is_variable else Reason.ROOTS
+        inside, word = self.text[start:place].rstrip(BLANK), word_at(self.text, behind)
+        is_empty = not inside or word == "]" and inside in ATTRIBUTES
+        reason = Reason.ROOTS if is_empty else Reason.UNEXPECTED
+        if word == "$" or VARIABLE.search(inside):
+            reason = Reason.VARIABLE
         error = ConditionError(reason, place, place if behind is None else behind.end)
         found = Found(form, is_inner, start, start + len(inside), None, error, guard)
         self.conditions.append(found)
@@ -314,7 +314,7 @@ class Reading:
         if form is Form.MACRO:
             self.add(form, opened.end, end, self._now_at(place))
             return
-        branches = Branches(self, place, group, form)
+        branches = Branches(self, place, end, group, form)
         read = branches.read_if if form is Form.CFG_IF else branches.read_select
         read(opened.end, end)
         if branches.numbers:
@@ -414,10 +414,14 @@ class Reading:
 class Branches:
     """Reads the branches of a `cfg_if!` or a `cfg_select!`."""
 
-    def __init__(self, reading: Reading, place: int, group: int, form: Form) -> None:
+    def __init__(
+        self, reading: Reading, place: int, end: int, group: int, form: Form
+    ) -> None:
+        """The macro begins at a place of a group, and ends at another one."""
         self._reading = reading
         self._text = reading.text
         self._place = place
+        self._end = end
         self._group = group
         self._form = form
         self._around = self._base = reading.now_at(place)
@@ -443,7 +447,7 @@ class Branches:
             return
         number = self.numbers[-1]
         self._reading.wait(start, Guard(self._base, end, found.text, number))
-        self._base = Guard(self._base, end, found.text, number, is_negated=True)
+        self._base = Guard(self._base, self._end, found.text, number, is_negated=True)
 
     def read_if(self, place: int, end: int) -> None:
         """Reads the branches of `cfg_if!` up to a place."""
