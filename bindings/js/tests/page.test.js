@@ -448,7 +448,8 @@ shows("compares conditions with what no target says", async () => {
   assert.equal(counts, `Different on 0 targets, the same on ${320 - unix.length}, and on ${
     unix.length} as the switches say.`);
   await decide('feature = "x"', "on");
-  assert.match((await told())[0], new RegExp(`^Different on ${unix.length - macos.length} targets`));
+  const apart = unix.length - macos.length;
+  assert.match((await told())[0], new RegExp(`^Different on ${apart} targets`));
   // What the switches say changes nothing in the sentences about all of them.
   assert.deepEqual((await told()).slice(1), [forth, back]);
 });
