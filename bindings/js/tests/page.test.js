@@ -298,6 +298,10 @@ shows("shows a target within the window, wherever its cell is", async () => {
     })()`);
     assert.ok(top >= 0 && bottom <= height, `${width}: ${top} to ${bottom} of ${height}`);
   }
+  // On a narrow page it stands over the cells, until it is closed.
+  await page.click("#close");
+  assert.equal(await page.see('getComputedStyle(document.querySelector("#target")).position'),
+               "static");
 });
 
 shows("shows the two fillings of what is unknown", async () => {
