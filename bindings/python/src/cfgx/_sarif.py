@@ -4,6 +4,7 @@ A text is given as it is shown to people. Lines and columns count from 1, and co
 characters, as Python counts them.
 """
 import enum
+import functools
 import json
 import os
 import urllib.parse
@@ -158,8 +159,9 @@ def location_of(place: Place) -> Dict[str, Any]:
     return {"physicalLocation": physical}
 
 
+@functools.lru_cache(maxsize=16)
 def uri_of(path: str) -> str:
-    """Returns the relative reference of a path."""
+    """Returns the relative reference of a path. Most findings are of one file."""
     return "/".join(urllib.parse.quote(os.fsencode(part), safe="") for part in path.split(os.sep))
 
 

@@ -91,7 +91,7 @@ def sentence_of(
     if finding.name == NEVER:
         platforms = "the host" if count == 1 else f"each of {count} platforms"
         return shown(f"{what} is false on {platforms}")
-    places = sum(value is Value.UNKNOWN for value in row.values)
+    places = row.values.count(Value.UNKNOWN)
     platforms = "the host" if count == 1 else f"{places} of {count} platforms"
     named = flags(row.unknown)
     return shown(f"{what} is unknown on {platforms}, by flags that RUSTFLAGS may set: {named}")
