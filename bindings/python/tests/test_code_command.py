@@ -205,12 +205,18 @@ class Page(Made):
         blocks = self.blocks()
         triples, never, two = [text for language, text in blocks if language == "text"]
         [code] = [text for language, text in blocks if language == "rust"]
-        [command] = [text for language, text in blocks if language == "sh"]
+        [known] = [text for language, text in blocks if language == "toml"]
+        command, in_ci = [text for language, text in blocks if language == "sh"]
         self.write("ci.txt", triples)
         self.write("src/lib.rs", code)
+        self.write("known.toml", known)
         self.assertEqual(self.command(*command.split()[1:]), (0, never, ""))
         self.assertEqual(self.command("--only", "two", "src"), (0, two, ""))
-        self.assertEqual(self.command(*"--quiet --fail-on never,faulty,overlap src".split())[0], 1)
+        first, second = (self.command(*line.split()[1:]) for line in in_ci.splitlines())
+        # Of both lines that are never compiled, one is known.
+        for (status, _, message), place in ((first, "src/lib.rs:3:13"), (second, "src/lib.rs:")):
+            self.assertEqual((status, len(message.splitlines())), (1, 1), message)
+            self.assertIn(place, message)
 
     def test_options_and_words(self):
         with open(PAGE, encoding="utf-8") as file:
