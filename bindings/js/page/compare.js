@@ -72,19 +72,25 @@ function differences(values) {
     `${start}, and the same on ${same}.`;
 }
 
-/** Returns the number of the condition that is chosen, which is there. */
-function chosen(choice, count, otherwise) {
-  const at = Number(choice.value || otherwise);
-  return at < count ? at : Math.min(otherwise, count - 1);
+/** Returns the numbers of the two conditions that are chosen. */
+export function chosen() {
+  return choices.map((choice) => Number(choice.value));
 }
 
-/** Offers the conditions for comparison, and returns the numbers of both that are chosen. */
+/** Offers the conditions for comparison, and returns the numbers of both that are compared: the
+ * wanted ones if they are there, or else the first two. Without two conditions, nothing is compared
+ * and nothing stays of what was. */
 export function offer(conditions, wanted) {
-  const numbers = choices.map((choice, at) => (
-    wanted?.[at] < conditions.length ? wanted[at] : chosen(choice, conditions.length, at)
-  ));
+  const isEnough = conditions.length > 1;
+  byId("compare-few").hidden = isEnough;
+  byId("compare-many").hidden = !isEnough;
+  if (!isEnough) {
+    [...choices, result].forEach((one) => one.replaceChildren());
+    return undefined;
+  }
+  const numbers = wanted?.every((at) => conditions[at] !== undefined) ? wanted : [0, 1];
+  const names = conditions.map((one) => `${one.line + 1}: ${one.inner}`);
   choices.forEach((choice, at) => {
-    const names = conditions.map((one) => `${one.line + 1}: ${one.inner}`);
     if (names.join("\n") !== [...choice.options].map(({ text }) => text).join("\n")) {
       choice.replaceChildren(...names.map((name, place) => (
         element("option", { value: String(place) }, name)
@@ -92,8 +98,6 @@ export function offer(conditions, wanted) {
     }
     choice.value = String(numbers[at]);
   });
-  byId("compare-few").hidden = conditions.length > 1;
-  byId("compare-many").hidden = conditions.length < 2;
   return numbers;
 }
 

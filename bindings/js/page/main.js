@@ -35,7 +35,12 @@ function readText() {
   const { lines, conditions, isWhole } = reader.read(text);
   shown.lines = lines;
   shown.all = conditions;
+  const count = shown.conditions.length;
   shown.conditions = conditions.map((one) => one.shown).filter((one) => one !== undefined);
+  if (shown.conditions.length !== count) {
+    // The numbers of those that were chosen may be those of others now.
+    shown.compare = undefined;
+  }
   const limits = `${counted(MOST_CONDITIONS, "condition")} and ${MOST_UNITS} characters`;
   setText(byId("limit"), isWhole && text.length === field.value.length ? "" :
     `Only the first ${limits} are read.`);
@@ -86,7 +91,7 @@ function draw() {
 function drawComparison() {
   const { conditions } = shown;
   shown.compare = comparing.offer(conditions, shown.compare);
-  if (conditions.length < 2) {
+  if (shown.compare === undefined) {
     comparing.setShown(false);
     return undefined;
   }
@@ -116,7 +121,7 @@ function state() {
     on: positions.filter(([, answer]) => answer).map(([text]) => text),
     off: positions.filter(([, answer]) => !answer).map(([text]) => text),
     triple: TRIPLES[shown.target],
-    compare: shown.conditions.length < 2 || isDefault ? undefined : shown.compare,
+    compare: isDefault ? undefined : shown.compare,
     isDifferent: comparing.isShown(),
   };
 }
@@ -137,10 +142,12 @@ function load({ text, line, on, off, triple, compare, isDifferent }) {
   off.forEach((one) => switches.decided.set(one, false));
   const target = TRIPLES.indexOf(triple);
   shown.target = target < 0 ? undefined : target;
-  shown.compare = compare;
   comparing.setShown(isDifferent);
   picture.select(shown.target);
-  update();
+  readText();
+  shown.compare = compare;
+  selectAtCaret();
+  draw();
 }
 
 /** Chooses a target. */
@@ -180,7 +187,7 @@ function listen() {
   list.start(chooseLine);
   picture.start(chooseTarget);
   comparing.start(() => {
-    shown.compare = undefined;
+    shown.compare = comparing.chosen();
     draw();
   }, (triple) => chooseTarget(TRIPLES.indexOf(triple)));
   byId("close").addEventListener("click", () => chooseTarget(undefined));

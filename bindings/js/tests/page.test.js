@@ -430,6 +430,41 @@ shows("compares two conditions", async () => {
   await checkPicture(apple);
 });
 
+shows("compares the first two conditions until others are chosen", async () => {
+  const choices = () => page.see(`["#first", "#second"].map((one) => (
+    document.querySelector(one).value))`);
+  await page.write("unix");
+  await page.press("Enter");
+  await page.send("Input.insertText", { text: "windows" });
+  await page.settle();
+  assert.deepEqual(await choices(), ["0", "1"]);
+  assert.match((await told())[0], /^Different on /);
+  await page.click("#examples button");
+  assert.deepEqual(await told(), []);
+  await page.write("unix\nwindows\ntest");
+  await page.choose("#second", "2");
+  assert.deepEqual(await choices(), ["0", "2"]);
+  await page.click("#text");
+  await page.press(" ");
+  assert.deepEqual(await choices(), ["0", "2"]);
+  // A line vanishes, and another one appears.
+  await page.write("unix\nwindows");
+  assert.deepEqual(await choices(), ["0", "1"]);
+  await page.write("unix\nwindows\ntest");
+  assert.deepEqual(await choices(), ["0", "1"]);
+});
+
+shows("compares again after a fault", async () => {
+  await page.write("all(unix");
+  assert.deepEqual(await told(), []);
+  assert.equal(await page.see('document.querySelector("#compare-few").hidden'), false);
+  await page.write("unix\nwindows");
+  assert.equal(await page.text("#pictured"), "windows");
+  assert.deepEqual(await page.texts("#first option"), ["1: unix", "2: windows"]);
+  const [, ...sentences] = await told();
+  assert.deepEqual(sentences.map((one) => one.match(/\d/g).slice(0, 2).join()), ["1,2", "2,1"]);
+});
+
 shows("names conditions by their lines", async () => {
   await page.write("unix\n\n  \nwindows");
   assert.deepEqual(await page.texts("#list .number"), ["1", "4"]);
