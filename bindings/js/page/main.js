@@ -13,7 +13,7 @@ import * as switches from "./switches.js";
 import { copy, tableOf } from "./table.js";
 import { TRIPLES, openPredicates, valuesOf } from "./values.js";
 import * as why from "./why.js";
-import { DIFFERENCES, NAMES, counted } from "./words.js";
+import { DIFFERENCES, NAMES, PAST_NAMES, counted } from "./words.js";
 
 const field = byId("text");
 const reader = new Reader();
@@ -51,25 +51,33 @@ function selectAtCaret() {
   const line = editor.caretLine();
   const above = shown.all.filter((one) => one.line <= line).at(-1);
   shown.atCaret = above ?? shown.all[0];
-  shown.selected = shown.atCaret?.shown ?? shown.conditions[0];
+  shown.selected = shown.atCaret?.shown;
 }
 
-/** Shows what the picture has: the values of the selected condition, or where two differ. */
+/** Names what the picture has: where two conditions differ, the selected condition, or a fault. */
+function nameOfPicture(isDifferent) {
+  if (isDifferent) {
+    return `Where ${shown.compare.map((at) => shown.conditions[at].line + 1).join(" and ")} differ`;
+  }
+  const { atCaret, selected } = shown;
+  return atCaret?.fault ? `Fault in line ${atCaret.line + 1}` :
+    selected?.inner ?? "No condition yet";
+}
+
+/** Shows what the picture has: the values of the selected condition, or where two differ. While its
+ * line is faulty, its last values stay in grey, without counts. */
 function drawPicture(comparison) {
   const isDifferent = comparing.isShown() && comparison !== undefined;
+  const isFaulty = !isDifferent && shown.atCaret?.fault !== undefined;
   const names = isDifferent ? DIFFERENCES : NAMES;
   const numbers = isDifferent ? comparison.values.numbers : numbersOf(shown.selected);
-  const lines = shown.compare?.map((at) => (shown.conditions[at]?.line ?? 0) + 1);
-  setText(byId("pictured"), isDifferent ? `Where ${lines.join(" and ")} differ` :
-    shown.selected?.inner ?? "No condition yet");
-  byId("pictured").classList.toggle("is-code", !isDifferent && shown.selected !== undefined);
-  const isStale = !isDifferent && shown.atCaret?.fault !== undefined;
-  setAttribute(byId("picture"), "data-stale", isStale ? "" : undefined);
-  const drawn = numbers ?? TRIPLES.map(() => 2);
-  picture.drawValues(drawn, names);
-  const counts = picture.countsOf(drawn);
+  setText(byId("pictured"), nameOfPicture(isDifferent));
+  byId("pictured").classList.toggle("is-code", !isDifferent && !isFaulty && numbers !== undefined);
+  setAttribute(byId("picture"), "data-stale", isFaulty ? "" : undefined);
+  picture.drawValues(numbers, isFaulty ? PAST_NAMES : names);
+  const counts = numbers && picture.countsOf(numbers);
   for (const value of [0, 1, 2]) {
-    setText(byId(`count-${value}`), String(counts[value]));
+    setText(byId(`count-${value}`), counts && !isFaulty ? String(counts[value]) : "");
     setText(byId(`name-${value}`), names[value]);
   }
 }
@@ -117,7 +125,7 @@ function state() {
   const positions = switches.shownPositions();
   const isDefault = shown.compare?.[0] === 0 && shown.compare[1] === 1;
   return {
-    text: field.value, line: shown.selected?.line ?? 0,
+    text: field.value, line: shown.atCaret?.line ?? 0,
     on: positions.filter(([, answer]) => answer).map(([text]) => text),
     off: positions.filter(([, answer]) => !answer).map(([text]) => text),
     triple: TRIPLES[shown.target],

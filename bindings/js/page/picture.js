@@ -68,8 +68,24 @@ export function countsOf(values) {
   return counts;
 }
 
-/** Shows values, by the numbers of targets, whose names are given. */
+/** Shows that there are no values. */
+function drawNone() {
+  CELLS.forEach((cell, target) => {
+    setAttribute(cell, "data-value", undefined);
+    cell.setAttribute("aria-label", TRIPLES[target]);
+  });
+  for (const { made, name, counts } of systems) {
+    counts.forEach((one) => setText(one, ""));
+    setAttribute(made, "aria-label", name);
+  }
+}
+
+/** Shows values, by the numbers of targets, whose names are given; or that there are none. */
 export function drawValues(numbers, names) {
+  if (numbers === undefined) {
+    drawNone();
+    return;
+  }
   CELLS.forEach((cell, target) => {
     const value = String(numbers[target]);
     if (cell.dataset.value !== value || cell.names !== names) {

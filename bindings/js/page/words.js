@@ -4,6 +4,8 @@
 export const NAMES = ["no", "yes", "unknown"];
 /** What the values of the condition that two differ are called. */
 export const DIFFERENCES = ["same", "differ", "may differ"];
+/** What values are called while the line that has them is faulty. */
+export const PAST_NAMES = NAMES.map((name) => `${name} before the fault`);
 
 // What messages of the engine call a term, and what is said in its place.
 const TERMS = new Map([

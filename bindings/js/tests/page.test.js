@@ -218,10 +218,38 @@ shows("takes a click into its text", async () => {
 shows("keeps the picture while a fault is typed", async () => {
   await page.write("windows");
   await page.press("(");
-  await checkPicture(triples(isWindows));
-  assert.equal(await page.see('"stale" in document.querySelector("#picture").dataset'), true);
+  assert.deepEqual(await shown(1), triples(isWindows).sort());
+  await checkFaulty(1);
+  assert.match(await page.see('document.querySelector(".cell").ariaLabel'), / before the fault$/);
   await page.press("Backspace");
-  assert.equal(await page.see('"stale" in document.querySelector("#picture").dataset'), false);
+  await checkPicture(triples(isWindows));
+  assert.equal(await page.see('getComputedStyle(document.querySelector("#cells")).filter'), "none");
+});
+
+/** Fails unless the picture says that a line is faulty, and has no counts and no colour. */
+async function checkFaulty(line) {
+  assert.equal(await page.text("#pictured"), `Fault in line ${line}`);
+  assert.deepEqual(await page.texts(".legend b"), ["", "", ""]);
+  assert.deepEqual(new Set(await page.texts(".system .count")), new Set([""]));
+  assert.equal(await page.see('getComputedStyle(document.querySelector("#cells")).filter'),
+               "grayscale(1)");
+}
+
+shows("has no values for a line that never had a condition", async () => {
+  await page.write("all(unix");
+  await checkFaulty(1);
+  assert.deepEqual([await shown(0), await shown(1), await shown(2)], [[], [], []]);
+  const labels = await page.see(`[...document.querySelectorAll(".cell, .system")]
+    .map((one) => one.ariaLabel).filter((label) => label.includes(":"))`);
+  assert.deepEqual(labels, []);
+  await page.write("unix\nany(");
+  await checkFaulty(2);
+  assert.deepEqual(await shown(1), []);
+  await page.write("");
+  assert.equal(await page.text("#pictured"), "No condition yet");
+  assert.deepEqual(await page.texts(".legend b"), ["", "", ""]);
+  await page.write("windows");
+  await checkPicture(triples(isWindows));
 });
 
 shows("moves nothing while one types", async () => {
