@@ -171,6 +171,11 @@ const FAULTS = [
   ['target_has_atomic = "x"', "x", 'Expected: a number of bits, such as "64", or "ptr".'],
   ["a, b", "a, b", "Several conditions stand side by side. Expected: one."],
   ["key =", "=", "Something is missing. Expected: a value in quotes"],
+  ["feature = 8", "8", '“8” is not expected here. Expected: a value in quotes, such as "8". '
+    + "A condition begins with a name such as unix, all, any or not."],
+  ["any(unix, key = 1.2)", "1", 'Expected: a value in quotes, such as "1.2".'],
+  ["target_os = linux", "linux", 'Expected: a value in quotes, such as "linux".'],
+  ["any(a = , b)", ",", 'Expected: a value in quotes, such as "linux".'],
   ['a = "é𝄞" b', "b", "Column 11: “b” is not expected here."],
   ['#[cfg(all(é, b))]', "é", "Column 11: “é” is not expected here."],
 ];
