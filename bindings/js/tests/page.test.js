@@ -442,6 +442,11 @@ function told() {
   return page.texts("#comparison li");
 }
 
+/** Returns the words for whether a condition implies another. */
+function implies(one, other) {
+  return `Where ${one} is true, ${other} is true too`;
+}
+
 shows("compares two conditions", async () => {
   await page.write('target_os = "macos"\ntarget_vendor = "apple"');
   const macos = triples((one) => one.target_os === "macos");
@@ -449,8 +454,9 @@ shows("compares two conditions", async () => {
   const [counts, forth, back] = await told();
   const apart = apple.length - macos.length;
   assert.equal(counts, `Different on ${apart} targets, and the same on ${320 - apart}.`);
-  assert.equal(forth, "1 implies 2: on every target, whatever the switches say.");
-  const wanted = /^2 implies 1: not on every target\. On (\S+), 2 is yes and 1 is no\.$/;
+  assert.equal(forth, `${implies(1, 2)}: on every target, whatever the switches say.`);
+  const wanted = new RegExp(`^${implies(2, 1)}: not on every target\\. On (\\S+), `
+    + "2 is yes and 1 is no\\.$");
   const [, triple] = wanted.exec(back);
   assert.ok(apple.includes(triple) && !macos.includes(triple), triple);
   await page.click(`#comparison [data-triple="${triple}"]`);
@@ -502,7 +508,7 @@ shows("names conditions by their lines", async () => {
   await page.write("unix\n\n  \nwindows");
   assert.deepEqual(await page.texts("#list .number"), ["1", "4"]);
   assert.deepEqual(await page.texts("#first option"), ["1: unix", "4: windows"]);
-  assert.match((await told())[1], /^1 implies 4: not on every target/);
+  assert.ok((await told())[1].startsWith(`${implies(1, 4)}: not on every target`));
   await page.click("#differences");
   assert.equal(await page.text("#pictured"), "Where 1 and 4 differ");
   assert.match(await page.text("#fault"), /^Line 4: true on /);
@@ -515,15 +521,32 @@ shows("compares conditions with what no target says", async () => {
   const macos = triples((one) => one.target_os === "macos");
   const start = "not on every target\\. On \\S+, with feature = \"x\"";
   const [counts, forth, back] = await told();
-  assert.match(forth, new RegExp(`^1 implies 3: ${start} off, 1 is yes and 3 is no\\.$`));
-  assert.match(back, new RegExp(`^3 implies 1: ${start} on, 3 is yes and 1 is no\\.$`));
+  assert.match(forth, new RegExp(`^${implies(1, 3)}: ${start} off, 1 is yes and 3 is no\\.$`));
+  assert.match(back, new RegExp(`^${implies(3, 1)}: ${start} on, 3 is yes and 1 is no\\.$`));
   assert.equal(counts, `Different on 0 targets, the same on ${320 - unix.length}, and on ${
     unix.length} as the switches say.`);
   await decide('feature = "x"', "on");
   const apart = unix.length - macos.length;
   assert.match((await told())[0], new RegExp(`^Different on ${apart} targets`));
-  // What the switches say changes nothing in the sentences about all of them.
+  // What the switches say changes nothing in the sentences about all of them, and has its own.
+  const now = (text) => ` As the switches stand: ${text}.`;
+  assert.deepEqual((await told()).slice(1), [`${forth}${now("on every target")}`,
+                                             `${back}${now(`not on ${apart} targets`)}`]);
+  await decide('feature = "x"', "off");
+  assert.deepEqual((await told()).slice(1),
+                   [`${forth}${now(`not on ${macos.length} targets`)}`,
+                    `${back}${now("on every target")}`]);
+  await decide('feature = "x"', "unknown");
   assert.deepEqual((await told()).slice(1), [forth, back]);
+});
+
+shows("says what switches leave unknown of two conditions", async () => {
+  await page.write("all(unix, a)\nall(unix, a, b)");
+  await decide("a", "on");
+  const [, forth, back] = await told();
+  const unix = triples(isUnix).length;
+  assert.ok(forth.endsWith(`As the switches stand: unknown on ${unix} targets.`), forth);
+  assert.equal(back, `${implies(2, 1)}: on every target, whatever the switches say.`);
 });
 
 shows("compares conditions in which predicates repeat", async () => {
@@ -532,13 +555,13 @@ shows("compares conditions in which predicates repeat", async () => {
   const rows = [
     ['any(feature = "x", not(feature = "x"))\nall()', equal],
     ["all(a, b)\nnot(any(not(a), not(b)))", equal],
-    ["all(a, not(a))\nwindows", ["1 implies 2: on every target, whatever the switches say.",
-                                 not("2 implies 1", "with a (on|off), 2 is yes and 1 is no")]],
-    ["a\nb", [not("1 implies 2", "with a on, b off, 1 is yes and 2 is no"),
-              not("2 implies 1", "with b on, a off, 2 is yes and 1 is no")]],
+    ["all(a, not(a))\nwindows", [`${implies(1, 2)}: on every target, whatever the switches say.`,
+                                 not(implies(2, 1), "with a (on|off), 2 is yes and 1 is no")]],
+    ["a\nb", [not(implies(1, 2), "with a on, b off, 1 is yes and 2 is no"),
+              not(implies(2, 1), "with b on, a off, 2 is yes and 1 is no")]],
     ["all(unix, a)\nany(all(unix, a), b)", [
-      "1 implies 2: on every target, whatever the switches say.",
-      not("2 implies 1", "with (a off, b on|b on, a off|b on), 2 is yes and 1 is no"),
+      `${implies(1, 2)}: on every target, whatever the switches say.`,
+      not(implies(2, 1), "with (a off, b on|b on, a off|b on), 2 is yes and 1 is no"),
     ]],
   ];
   for (const [text, wanted] of rows) {
@@ -571,7 +594,8 @@ shows("says what was not tried out", async () => {
   assert.deepEqual((await told()).slice(1), [equal]);
   await page.write(parities(9));
   const untried = "not tried out, since there are too many ways to set the switches.";
-  assert.deepEqual((await told()).slice(1), [`1 implies 2: ${untried}`, `2 implies 1: ${untried}`]);
+  assert.deepEqual((await told()).slice(1),
+                   [`${implies(1, 2)}: ${untried}`, `${implies(2, 1)}: ${untried}`]);
 });
 
 shows("keeps what it shows in its address", async () => {
