@@ -158,12 +158,24 @@ function load({ text, line, on, off, triple, compare, isDifferent }) {
   draw();
 }
 
-/** Chooses a target. */
-function chooseTarget(target) {
+/** Chooses a target. If it is opened, and not only passed, says where its details are. */
+function chooseTarget(target, isOpened = false) {
   shown.target = target;
   picture.select(target);
   drawTarget();
+  if (isOpened) {
+    why.announceDetails();
+  }
   address.writeSoon(state);
+}
+
+/** Closes the chosen target, and puts the focus on its cell. */
+function closeTarget() {
+  const { target } = shown;
+  if (target !== undefined) {
+    chooseTarget(undefined);
+    picture.focus(target);
+  }
 }
 
 /** Chooses the condition on a line. */
@@ -173,12 +185,15 @@ function chooseLine(line) {
   update();
 }
 
+let copiedTimer;
+
 /** Says that something was copied, for a while. */
-async function copied(button, text) {
+async function copied(text) {
+  setText(byId("copied"), "");
   await copy(text);
-  setText(byId("announced"), "Copied.");
-  button.dataset.copied = "";
-  setTimeout(() => delete button.dataset.copied, 1500);
+  setText(byId("copied"), "Copied.");
+  clearTimeout(copiedTimer);
+  copiedTimer = setTimeout(() => setText(byId("copied"), ""), 4000);
 }
 
 /** Lets the page follow what its user does. */
@@ -198,18 +213,24 @@ function listen() {
     shown.compare = comparing.chosen();
     draw();
   }, (triple) => chooseTarget(TRIPLES.indexOf(triple)));
-  byId("close").addEventListener("click", () => chooseTarget(undefined));
+  byId("close").addEventListener("click", closeTarget);
+  document.addEventListener("keydown", ({ key, target }) => {
+    // In a list of choices, Escape closes that list.
+    if (key === "Escape" && !target.matches("select")) {
+      closeTarget();
+    }
+  });
   byId("examples").addEventListener("click", ({ target }) => {
     if (target.dataset.text !== undefined) {
       load({ ...address.stateOf(target.dataset.text), triple: TRIPLES[shown.target] });
     }
   });
-  byId("copy-table").addEventListener("click", ({ currentTarget }) => {
-    copied(currentTarget, tableOf(shown.conditions, shown.values));
+  byId("copy-table").addEventListener("click", () => {
+    copied(tableOf(shown.conditions, shown.values));
   });
-  byId("copy-link").addEventListener("click", ({ currentTarget }) => {
+  byId("copy-link").addEventListener("click", () => {
     address.write(state());
-    copied(currentTarget, location.href);
+    copied(location.href);
   });
   address.start((found) => found && load(found));
 }

@@ -101,7 +101,7 @@ shows("shows the targets by system and processor", async () => {
   const systems = await page.see(`[...document.querySelectorAll(".system")].map((system) => [
     system.querySelector("h3").innerText,
     [...system.querySelectorAll(".processor")].map((one) => [
-      one.querySelector("h4").innerText,
+      one.innerText,
       [...one.querySelectorAll(".cell")].map((cell) => cell.dataset.triple),
     ]),
   ])`);
@@ -333,8 +333,92 @@ shows("shows a target within the window, wherever its cell is", async () => {
   }
   // On a narrow page it stands over the cells, until it is closed.
   await page.click("#close");
-  assert.equal(await page.see('getComputedStyle(document.querySelector("#target")).position'),
-               "static");
+  assert.equal(await page.see('getComputedStyle(document.querySelector("#target")).display'),
+               "none");
+});
+
+shows("has the comparison in front of the targets on a narrow page", async () => {
+  await page.resize(390, 800);
+  await page.write("unix\nwindows");
+  assert.equal(await page.see('getComputedStyle(document.querySelector("#target")).display'),
+               "none");
+  const [compare, picture] = await page.see(`["#compare", "#picture"].map((one) => (
+    document.querySelector(one).getBoundingClientRect().top))`);
+  assert.ok(compare < picture, `${compare} ${picture}`);
+});
+
+shows("closes a target by Escape, and says where its details are", async () => {
+  await page.write("unix");
+  const triple = "x86_64-unknown-linux-gnu";
+  await choose(triple);
+  for (const selector of ["#close", `.cell[data-triple="${triple}"]`, "#text"]) {
+    await page.see(`document.querySelector('${selector}').focus()`);
+    await page.press("Escape");
+    assert.match(await page.text("#why"), /^Choose a cell, /);
+    assert.equal(await page.see("document.activeElement.dataset.triple"), triple, selector);
+    await page.press("Enter");
+    assert.equal(await page.text("#announced"), `${triple}: yes. Details are in One target.`);
+    assert.equal(await page.text("#why .triple"), triple);
+  }
+  await page.press("ArrowRight");
+  assert.doesNotMatch(await page.text("#announced"), /Details/);
+  for (const [selector, live] of [["#announced", "status"], ["#comparison", "polite"]]) {
+    const one = `document.querySelector("${selector}")`;
+    assert.equal(await page.see(`${one}.getAttribute("aria-live") ?? ${one}.role`), live);
+  }
+});
+
+shows("reads a comparison out again only if it changed", async () => {
+  await page.write("unix\nwindows");
+  await page.see('document.querySelector("#comparison li").dataset.before = ""');
+  await choose("x86_64-unknown-linux-gnu");
+  await page.click("#list button");
+  assert.equal(await page.see('document.querySelectorAll("[data-before]").length'), 1);
+  await page.write("unix\ntest");
+  assert.equal(await page.see('document.querySelectorAll("[data-before]").length'), 0);
+});
+
+shows("labels the groups of processors, which are no headings", async () => {
+  const groups = await page.see(`[...document.querySelectorAll(".processor")].map((one) => (
+    [one.role, one.ariaLabel, one.innerText]))`);
+  assert.ok(groups.length > 30);
+  for (const [role, label, text] of groups) {
+    assert.deepEqual([role, label], ["group", text]);
+  }
+  assert.equal(await page.see('document.querySelectorAll("#cells h4").length'), 0);
+});
+
+shows("hides no line of its boxes", async () => {
+  const names = "abcdef";
+  await page.write([...names].map((name) => `all(${name}, unix, not(target_vendor = "apple"))`)
+    .join("\n"));
+  assert.equal((await page.texts("#list li")).length, names.length);
+  await decide("a", "on");
+  for (const width of [1280, 390]) {
+    await page.resize(width, 900);
+    await page.settle();
+    const cut = await page.see(`[...document.querySelectorAll("#counts *, #decide *, #compare *")]
+      .filter((one) => getComputedStyle(one).overflowY !== "visible" &&
+                       one.scrollHeight > one.clientHeight + 1)
+      .map((one) => one.id || one.className || one.tagName)`);
+    assert.deepEqual(cut, [], String(width));
+    const out = await page.see(`["#counts", "#decide", "#compare"].filter((card) => {
+      const { bottom } = document.querySelector(card).getBoundingClientRect();
+      return [...document.querySelectorAll(card + " *")]
+        .some((one) => one.getBoundingClientRect().bottom > bottom);
+    })`);
+    assert.deepEqual(out, [], String(width));
+  }
+});
+
+shows("says what a condition, a target and a feature are", async () => {
+  assert.equal(await page.see('document.querySelector("#terms").open'), false);
+  await page.click("#terms summary");
+  assert.equal(await page.see('document.querySelector("#terms").open'), true);
+  const terms = await page.see(`[...document.querySelectorAll("#terms dt")]
+    .map((one) => [one.innerText, one.nextElementSibling.innerText.length > 20])`);
+  const wanted = ["unix", "all(..)", "any(..)", "not(..)", "Target", "Feature"];
+  assert.deepEqual(terms, wanted.map((term) => [term, true]));
 });
 
 shows("shows the two fillings of what is unknown", async () => {
@@ -629,7 +713,11 @@ shows("copies the table and the link", async () => {
   await page.write('unix\nany(windows, feature = "x")');
   const pasted = async (button) => {
     await page.click(button);
-    await page.until(`"copied" in document.querySelector("${button}").dataset`);
+    await page.until('document.querySelector("#copied").innerText === "Copied."');
+    assert.ok(await page.see(`(() => {
+      const { top, bottom, width } = document.querySelector("#copied").getBoundingClientRect();
+      return top >= 0 && bottom <= innerHeight && width > 20;
+    })()`));
     await page.click("#text");
     await page.press("Control+a", ["selectAll"]);
     await page.press("Control+v", ["paste"]);
@@ -788,9 +876,9 @@ function contrasts() {
       return 0.2126 * red + 0.7152 * green + 0.0722 * blue;
     };
     const card = light(getComputedStyle(document.querySelector(".card")).backgroundColor);
-    return ["h1", "h2", "h3", ".processor h4", "#fault", ".about", ".facts dt", "#examples button",
-            ".line [data-kind=key]", ".line [data-kind=value]", ".line [data-kind=any]",
-            ".verdict b", ".link"].map((name) => {
+    return ["h1", "h2", "h3", ".processor .label", "#fault", ".about", ".facts dt",
+            "#examples button", ".line [data-kind=key]", ".line [data-kind=value]",
+            ".line [data-kind=any]", ".verdict b", ".link"].map((name) => {
       const text = light(getComputedStyle(document.querySelector(name)).color);
       return [name, (Math.max(text, card) + 0.05) / (Math.min(text, card) + 0.05)];
     });
