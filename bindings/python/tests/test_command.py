@@ -12,7 +12,7 @@ from . import HERE, PACKAGE, needs
 from .made import Folder
 
 import cfgx
-from cfgx import _command, _library
+from cfgx import _command, _library, _output
 
 PROJECT = os.path.join(HERE, "..", "pyproject.toml")
 # What each file of facts has.
@@ -225,12 +225,12 @@ class Statuses(Made):
                     self.assertEqual(found, (status, output, ""))
 
     def test_lines_that_are_printed_in_pieces(self):
-        for count, length in ((0, 1), (1, 1), (3, 1), (10, _command.PIECE // 4), (3, 1 << 21)):
+        for count, length in ((0, 1), (1, 1), (3, 1), (10, _output.PIECE // 4), (3, 1 << 21)):
             lines = [str(number) * length for number in range(count)]
-            pieces = list(_command.pieces_of(lines))
+            pieces = list(_output.pieces_of(lines))
             self.assertEqual("\n".join(pieces), "\n".join(lines))
-            self.assertTrue(all(len(piece) <= _command.PIECE + length for piece in pieces))
-        self.assertEqual([list(_command.pieces_of(["a", ""])), list(_command.pieces_of([""]))],
+            self.assertTrue(all(len(piece) <= _output.PIECE + length for piece in pieces))
+        self.assertEqual([list(_output.pieces_of(["a", ""])), list(_output.pieces_of([""]))],
                          [["a\n"], [""]])
 
     def test_a_reader_that_has_enough(self):

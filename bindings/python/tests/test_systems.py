@@ -15,7 +15,7 @@ from .made import Folder
 from .test_command import FACTS, HOST, TABLE, WINDOWS, Made, dependency_of
 from .test_library import NAME, python
 
-from cfgx import _command, _process
+from cfgx import _output, _process
 from cfgx.manifest import _platforms
 
 # The file of the library by what Python calls a system.
@@ -177,12 +177,12 @@ class Commands(Made):
         for number, is_enough in ((errno.EINVAL, True), (errno.ENOSPC, False)):
             error = OSError(number, os.strerror(number))
             with unittest.mock.patch.object(_process, "IS_WINDOWS", True), \
-                    unittest.mock.patch.object(_command, "abandon"), \
+                    unittest.mock.patch.object(_output, "abandon"), \
                     unittest.mock.patch("builtins.print", side_effect=error):
                 if is_enough:
-                    _command.write(["a"])
+                    _output.write(["a"])
                 else:
-                    self.assertRaises(_command.OutputError, _command.write, ["a"])
+                    self.assertRaises(_output.OutputError, _output.write, ["a"])
 
 
 class Files(Folder):

@@ -1,19 +1,18 @@
 """The command `cfgx-deps`."""
 import argparse
 import dataclasses
-import errno
 import gc
-import io
 import os
 import shutil
 import sys
-from typing import (
-    Any, Dict, Iterable, Iterator, List, NoReturn, Optional, Sequence, TextIO, Union,
-)
+from typing import Any, Dict, Iterable, Iterator, List, Optional, Sequence, Union
 
-from . import __version__, _known, _process
+from . import __version__, _known
 from ._arguments import parser_of
 from ._known import Known, KnownError
+from ._output import (
+    FAILED, FOUND, INTERRUPTED, MISUSED, OutputError, Parser, complain, write,
+)
 from ._terminal import Progress, has_colours, is_terminal, shown
 from .manifest import (
     Features, ManifestError, Report, RequestError, Resolved, Row, Used, report, resolved,
@@ -28,24 +27,8 @@ from .manifest._once import Once
 from .manifest._report import differ, has_unknown
 
 NAME = "cfgx-deps"
-FOUND, MISUSED, FAILED, INTERRUPTED = 1, 2, 3, 130
-# How many characters are printed at once.
-PIECE = 1 << 20
 # A report of either kind.
 Found = Union[Report, Resolved]
-
-
-class Parser(argparse.ArgumentParser):
-    """A parser whose messages have only printable characters."""
-
-    def error(self, message: str) -> NoReturn:
-        """Prints what is wrong with the arguments, and ends."""
-        complain(f"error: {shown(message)}", self.format_usage())
-        sys.exit(MISUSED)
-
-
-class OutputError(Exception):
-    """The output does not take what is printed. The message says why."""
 
 
 def parser(name: str = NAME) -> Parser:
@@ -174,58 +157,6 @@ def lines_of_resolved(
     )
 
 
-def write(lines: Iterable[str]) -> None:
-    """Prints lines. A character that the output does not have is escaped. Raises `OutputError`."""
-    if sys.stdout is None:
-        raise OutputError("the output is closed")
-    encoding = sys.stdout.encoding or "utf-8"
-    if isinstance(sys.stdout, io.TextIOWrapper):
-        # On Windows, a line would end with a carriage return, which a reader takes for a text.
-        sys.stdout.reconfigure(newline="\n")
-    try:
-        for text in pieces_of(lines):
-            print(text.encode(encoding, "backslashreplace").decode(encoding), flush=True)
-    except OSError as error:
-        abandon(sys.stdout)
-        # If the pipe is broken, whoever reads has enough. Windows has another error for it.
-        is_broken = isinstance(error, BrokenPipeError) or (
-            _process.IS_WINDOWS and error.errno == errno.EINVAL
-        )
-        if not is_broken:
-            raise OutputError(f"the output could not be written: {error.strerror}") from error
-
-
-def pieces_of(lines: Iterable[str]) -> Iterator[str]:
-    """Yields lines in texts of some size. A table of a hundred thousand rows does not fit into
-    memory at once."""
-    piece: List[str] = []
-    size = 0
-    for line in lines:
-        piece.append(line)
-        size += len(line) + 1
-        if size > PIECE:
-            yield "\n".join(piece)
-            piece, size = [], 0
-    if piece:
-        yield "\n".join(piece)
-
-
-def abandon(stream: TextIO) -> None:
-    """Drops what a stream could not write. Python tries again at its end, which would fail too."""
-    os.dup2(os.open(os.devnull, os.O_WRONLY), stream.fileno())
-
-
-def complain(message: str, above: str = "") -> None:
-    """Prints a message of several lines on stderr, below other lines. If that fails, only the
-    status tells."""
-    if sys.stderr is None:
-        return
-    try:
-        print(f"{above}{NAME}: {message}", file=sys.stderr, flush=True)
-    except OSError:
-        abandon(sys.stderr)
-
-
 def reasons_to_fail(found: Found, wanted: Sequence[str], known: Known) -> Iterator[str]:
     """Yields a line for each row of a report for which the command is to fail."""
     if isinstance(found, Report):
@@ -264,14 +195,14 @@ def run(words: argparse.Namespace) -> int:
     reasons = list(reasons_to_fail(found, words.fail_on, known)) if is_judged else []
     notes = [*found.notes, *(f"{words.known}: {one} matches nothing" for one in known.unmatched())]
     for note in [] if words.quiet else notes:
-        complain(f"note: {shown(note)}")
+        complain(NAME, f"note: {shown(note)}")
     write(lines_of(found, words, known))
     for reason in reasons:
-        complain(reason)
+        complain(NAME, reason)
     if not found.is_tried:
         what = "answers to flags"
         what += " and ways to packages" if isinstance(found, Resolved) else ""
-        complain(f"not all {what} were tried out: the budget of a report is spent")
+        complain(NAME, f"not all {what} were tried out: the budget of a report is spent")
     return FOUND if reasons else 0 if found.is_tried else FAILED
 
 
@@ -285,14 +216,14 @@ def main(arguments: Optional[Sequence[str]] = None, name: str = NAME) -> int:
     try:
         return run(words)
     except RequestError as error:
-        complain(str(error))
+        complain(NAME, str(error))
         return MISUSED
     except (ManifestError, KnownError) as error:
-        complain(str(error))
+        complain(NAME, str(error))
     except OutputError as error:
-        complain(str(error))
+        complain(NAME, str(error))
     except MemoryError:
-        complain("there is not enough memory")
+        complain(NAME, "there is not enough memory")
     except KeyboardInterrupt:
         return INTERRUPTED
     return FAILED

@@ -1,9 +1,12 @@
 """How the commands of the package print, and with which status they end."""
 import argparse
+import errno
+import io
 import os
 import sys
 from typing import Iterable, Iterator, List, NoReturn, TextIO
 
+from . import _process
 from ._terminal import shown
 
 FOUND, MISUSED, FAILED, INTERRUPTED = 1, 2, 3, 130
@@ -29,13 +32,19 @@ def write(lines: Iterable[str]) -> None:
     if sys.stdout is None:
         raise OutputError("the output is closed")
     encoding = sys.stdout.encoding or "utf-8"
+    if isinstance(sys.stdout, io.TextIOWrapper):
+        # On Windows, a line would end with a carriage return, which a reader takes for a text.
+        sys.stdout.reconfigure(newline="\n")
     try:
         for text in pieces_of(lines):
             print(text.encode(encoding, "backslashreplace").decode(encoding), flush=True)
     except OSError as error:
         abandon(sys.stdout)
-        # If the pipe is broken, whoever reads has enough.
-        if not isinstance(error, BrokenPipeError):
+        # If the pipe is broken, whoever reads has enough. Windows has another error for it.
+        is_broken = isinstance(error, BrokenPipeError) or (
+            _process.IS_WINDOWS and error.errno == errno.EINVAL
+        )
+        if not is_broken:
             raise OutputError(f"the output could not be written: {error.strerror}") from error
 
 
