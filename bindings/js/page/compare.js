@@ -7,8 +7,8 @@ import { Budget } from "./search.js";
 import { TRIPLES, Values, decidedOf } from "./values.js";
 import { answersInWords, counted } from "./words.js";
 
-// What the searches of a comparison may spend together, a third of it each.
-const BUDGET = 1_500_000;
+// What each of the searches of a comparison may spend.
+const BUDGET = 500_000;
 const NO_SWITCHES = new Map();
 
 const choices = [byId("first"), byId("second")];
@@ -21,7 +21,7 @@ const apart = (one, other) => `any(${without(one, other)}, ${without(other, one)
 /** Returns a target and answers with which one condition is true and the other is not. There may be
  * none, or none that was found. */
 function counterexample(one, other) {
-  const values = new Values(joined(without, one, other), NO_SWITCHES, new Budget(BUDGET / 3));
+  const values = new Values(joined(without, one, other), NO_SWITCHES, new Budget(BUDGET));
   for (const target of TRIPLES.keys()) {
     const answers = values.at(target).canBe.get(TRUE);
     if (answers !== undefined) {
@@ -31,8 +31,25 @@ function counterexample(one, other) {
   return { isWhole: values.isWhole };
 }
 
-// The last comparison, and of what it was.
+/** Returns on how many targets one condition is true and the other is not, as the switches stand,
+ * and on how many that is unknown. If they say nothing of both conditions, returns `undefined`. */
+function broken(one, other, decided) {
+  if (![one, other].some(({ distinct }) => distinct.some((text) => decided.has(text)))) {
+    return undefined;
+  }
+  const values = new Values(joined(without, one, other), decided, new Budget(BUDGET));
+  const [, count, open] = countsOf(values.numbers);
+  return { count, open };
+}
+
+/** Returns whether one condition implies another: always, and as the switches stand. */
+function direction(one, other, decided) {
+  return { always: counterexample(one, other), now: broken(one, other, decided) };
+}
+
+// The last comparison, of what it was, and the one that is drawn.
 let last = {};
+let drawn;
 
 /** Returns the comparison of two conditions, with what the switches say. */
 export function compared(one, other, decided) {
@@ -40,20 +57,37 @@ export function compared(one, other, decided) {
   if (last.one !== one || last.other !== other || last.key !== key) {
     last = {
       one, other, key,
-      forth: counterexample(one, other),
-      back: counterexample(other, one),
-      values: new Values(joined(apart, one, other), decided, new Budget(BUDGET / 3)),
+      forth: direction(one, other, decided),
+      back: direction(other, one, decided),
+      values: new Values(joined(apart, one, other), decided, new Budget(BUDGET)),
     };
   }
   return last;
 }
 
-/** Returns the sentence that says whether one condition implies another. */
-function implication(one, other, { target, answers, isWhole }) {
-  const start = [element("b", {}, `${one} implies ${other}`), ": "];
+/** Returns whether one condition implies another on every target, whatever the switches say. */
+function isAlways({ always: { target, isWhole } }) {
+  return target === undefined && isWhole;
+}
+
+/** Returns the sentence on how one condition implies another as the switches stand. */
+function nowInWords({ count, open }) {
+  const on = (number, words) => (number > 0 ? [`${words}on ${counted(number, "target")}`] : []);
+  const parts = [...on(count, "not "), ...on(open, "unknown ")];
+  return ` As the switches stand: ${parts.join(", and ") || "on every target"}.`;
+}
+
+/** Returns the sentences that say whether one condition implies another. */
+function implication(one, other, found) {
+  const start = [element("b", {}, `Where ${one} is true, ${other} is true too`), ": "];
+  if (isAlways(found)) {
+    return element("li", {}, ...start, "on every target, whatever the switches say.");
+  }
+  const { always: { target, answers }, now } = found;
+  const end = now ? nowInWords(now) : "";
   if (target === undefined) {
-    return element("li", {}, ...start, isWhole ? "on every target, whatever the switches say." :
-      "not tried out, since there are too many ways to set the switches.");
+    const untried = "not tried out, since there are too many ways to set the switches.";
+    return element("li", {}, ...start, untried, end);
   }
   const triple = TRIPLES[target];
   const place = element("button", { type: "button", class: "link", "data-triple": triple },
@@ -61,7 +95,7 @@ function implication(one, other, { target, answers, isWhole }) {
   const filling = answersInWords(answers);
   return element("li", {}, ...start, "not on every target. On ", place,
                  ...(filling ? [", with ", code(filling)] : []),
-                 `, ${one} is yes and ${other} is no.`);
+                 `, ${one} is yes and ${other} is no.`, end);
 }
 
 /** Returns the sentence that says on how many targets two conditions differ. */
@@ -72,19 +106,26 @@ function differences(values) {
     `${start}, and the same on ${same}.`;
 }
 
-/** Returns the number of the condition that is chosen, which is there. */
-function chosen(choice, count, otherwise) {
-  const at = Number(choice.value || otherwise);
-  return at < count ? at : Math.min(otherwise, count - 1);
+/** Returns the numbers of the two conditions that are chosen. */
+export function chosen() {
+  return choices.map((choice) => Number(choice.value));
 }
 
-/** Offers the conditions for comparison, and returns the numbers of both that are chosen. */
+/** Offers the conditions for comparison, and returns the numbers of both that are compared: the
+ * wanted ones if they are there, or else the first two. Without two conditions, nothing is compared
+ * and nothing stays of what was. */
 export function offer(conditions, wanted) {
-  const numbers = choices.map((choice, at) => (
-    wanted?.[at] < conditions.length ? wanted[at] : chosen(choice, conditions.length, at)
-  ));
+  const isEnough = conditions.length > 1;
+  byId("compare-few").hidden = isEnough;
+  byId("compare-many").hidden = !isEnough;
+  if (!isEnough) {
+    [...choices, result].forEach((one) => one.replaceChildren());
+    drawn = undefined;
+    return undefined;
+  }
+  const numbers = wanted?.every((at) => conditions[at] !== undefined) ? wanted : [0, 1];
+  const names = conditions.map((one) => `${one.line + 1}: ${one.inner}`);
   choices.forEach((choice, at) => {
-    const names = conditions.map((one) => `${one.line + 1}: ${one.inner}`);
     if (names.join("\n") !== [...choice.options].map(({ text }) => text).join("\n")) {
       choice.replaceChildren(...names.map((name, place) => (
         element("option", { value: String(place) }, name)
@@ -92,16 +133,19 @@ export function offer(conditions, wanted) {
     }
     choice.value = String(numbers[at]);
   });
-  byId("compare-few").hidden = conditions.length > 1;
-  byId("compare-many").hidden = conditions.length < 2;
   return numbers;
 }
 
-/** Shows a comparison of two conditions, which are named by their lines. */
-export function showComparison([first, second], { forth, back, values }) {
+/** Shows a comparison of two conditions, which are named by their lines. One that is shown already
+ * stays, so that it is not read out again. */
+export function showComparison([first, second], comparison) {
+  if (drawn === comparison) {
+    return;
+  }
+  drawn = comparison;
+  const { forth, back, values } = comparison;
   const [one, other] = [first.line + 1, second.line + 1];
-  const isEqual = [forth, back].every(({ target, isWhole }) => target === undefined && isWhole);
-  const items = isEqual ?
+  const items = isAlways(forth) && isAlways(back) ?
     [element("li", {}, element("b", {}, `${one} and ${other} are equal`),
              ": on every target, whatever the switches say.")] :
     [implication(one, other, forth), implication(other, one, back)];

@@ -13,7 +13,7 @@ import * as switches from "./switches.js";
 import { copy, tableOf } from "./table.js";
 import { TRIPLES, openPredicates, valuesOf } from "./values.js";
 import * as why from "./why.js";
-import { DIFFERENCES, NAMES, counted } from "./words.js";
+import { DIFFERENCES, NAMES, PAST_NAMES, counted } from "./words.js";
 
 const field = byId("text");
 const reader = new Reader();
@@ -35,7 +35,12 @@ function readText() {
   const { lines, conditions, isWhole } = reader.read(text);
   shown.lines = lines;
   shown.all = conditions;
+  const count = shown.conditions.length;
   shown.conditions = conditions.map((one) => one.shown).filter((one) => one !== undefined);
+  if (shown.conditions.length !== count) {
+    // The numbers of those that were chosen may be those of others now.
+    shown.compare = undefined;
+  }
   const limits = `${counted(MOST_CONDITIONS, "condition")} and ${MOST_UNITS} characters`;
   setText(byId("limit"), isWhole && text.length === field.value.length ? "" :
     `Only the first ${limits} are read.`);
@@ -46,25 +51,33 @@ function selectAtCaret() {
   const line = editor.caretLine();
   const above = shown.all.filter((one) => one.line <= line).at(-1);
   shown.atCaret = above ?? shown.all[0];
-  shown.selected = shown.atCaret?.shown ?? shown.conditions[0];
+  shown.selected = shown.atCaret?.shown;
 }
 
-/** Shows what the picture has: the values of the selected condition, or where two differ. */
+/** Names what the picture has: where two conditions differ, the selected condition, or a fault. */
+function nameOfPicture(isDifferent) {
+  if (isDifferent) {
+    return `Where ${shown.compare.map((at) => shown.conditions[at].line + 1).join(" and ")} differ`;
+  }
+  const { atCaret, selected } = shown;
+  return atCaret?.fault ? `Fault in line ${atCaret.line + 1}` :
+    selected?.inner ?? "No condition yet";
+}
+
+/** Shows what the picture has: the values of the selected condition, or where two differ. While its
+ * line is faulty, its last values stay in grey, without counts. */
 function drawPicture(comparison) {
   const isDifferent = comparing.isShown() && comparison !== undefined;
+  const isFaulty = !isDifferent && shown.atCaret?.fault !== undefined;
   const names = isDifferent ? DIFFERENCES : NAMES;
   const numbers = isDifferent ? comparison.values.numbers : numbersOf(shown.selected);
-  const lines = shown.compare?.map((at) => (shown.conditions[at]?.line ?? 0) + 1);
-  setText(byId("pictured"), isDifferent ? `Where ${lines.join(" and ")} differ` :
-    shown.selected?.inner ?? "No condition yet");
-  byId("pictured").classList.toggle("is-code", !isDifferent && shown.selected !== undefined);
-  const isStale = !isDifferent && shown.atCaret?.fault !== undefined;
-  setAttribute(byId("picture"), "data-stale", isStale ? "" : undefined);
-  const drawn = numbers ?? TRIPLES.map(() => 2);
-  picture.drawValues(drawn, names);
-  const counts = picture.countsOf(drawn);
+  setText(byId("pictured"), nameOfPicture(isDifferent));
+  byId("pictured").classList.toggle("is-code", !isDifferent && !isFaulty && numbers !== undefined);
+  setAttribute(byId("picture"), "data-stale", isFaulty ? "" : undefined);
+  picture.drawValues(numbers, isFaulty ? PAST_NAMES : names);
+  const counts = numbers && picture.countsOf(numbers);
   for (const value of [0, 1, 2]) {
-    setText(byId(`count-${value}`), String(counts[value]));
+    setText(byId(`count-${value}`), counts && !isFaulty ? String(counts[value]) : "");
     setText(byId(`name-${value}`), names[value]);
   }
 }
@@ -86,7 +99,7 @@ function draw() {
 function drawComparison() {
   const { conditions } = shown;
   shown.compare = comparing.offer(conditions, shown.compare);
-  if (conditions.length < 2) {
+  if (shown.compare === undefined) {
     comparing.setShown(false);
     return undefined;
   }
@@ -112,11 +125,11 @@ function state() {
   const positions = switches.shownPositions();
   const isDefault = shown.compare?.[0] === 0 && shown.compare[1] === 1;
   return {
-    text: field.value, line: shown.selected?.line ?? 0,
+    text: field.value, line: shown.atCaret?.line ?? 0,
     on: positions.filter(([, answer]) => answer).map(([text]) => text),
     off: positions.filter(([, answer]) => !answer).map(([text]) => text),
     triple: TRIPLES[shown.target],
-    compare: shown.conditions.length < 2 || isDefault ? undefined : shown.compare,
+    compare: isDefault ? undefined : shown.compare,
     isDifferent: comparing.isShown(),
   };
 }
@@ -137,18 +150,32 @@ function load({ text, line, on, off, triple, compare, isDifferent }) {
   off.forEach((one) => switches.decided.set(one, false));
   const target = TRIPLES.indexOf(triple);
   shown.target = target < 0 ? undefined : target;
-  shown.compare = compare;
   comparing.setShown(isDifferent);
   picture.select(shown.target);
-  update();
+  readText();
+  shown.compare = compare;
+  selectAtCaret();
+  draw();
 }
 
-/** Chooses a target. */
-function chooseTarget(target) {
+/** Chooses a target. If it is opened, and not only passed, says where its details are. */
+function chooseTarget(target, isOpened = false) {
   shown.target = target;
   picture.select(target);
   drawTarget();
+  if (isOpened) {
+    why.announceDetails();
+  }
   address.writeSoon(state);
+}
+
+/** Closes the chosen target, and puts the focus on its cell. */
+function closeTarget() {
+  const { target } = shown;
+  if (target !== undefined) {
+    chooseTarget(undefined);
+    picture.focus(target);
+  }
 }
 
 /** Chooses the condition on a line. */
@@ -158,12 +185,15 @@ function chooseLine(line) {
   update();
 }
 
+let copiedTimer;
+
 /** Says that something was copied, for a while. */
-async function copied(button, text) {
+async function copied(text) {
+  setText(byId("copied"), "");
   await copy(text);
-  setText(byId("announced"), "Copied.");
-  button.dataset.copied = "";
-  setTimeout(() => delete button.dataset.copied, 1500);
+  setText(byId("copied"), "Copied.");
+  clearTimeout(copiedTimer);
+  copiedTimer = setTimeout(() => setText(byId("copied"), ""), 4000);
 }
 
 /** Lets the page follow what its user does. */
@@ -180,21 +210,27 @@ function listen() {
   list.start(chooseLine);
   picture.start(chooseTarget);
   comparing.start(() => {
-    shown.compare = undefined;
+    shown.compare = comparing.chosen();
     draw();
   }, (triple) => chooseTarget(TRIPLES.indexOf(triple)));
-  byId("close").addEventListener("click", () => chooseTarget(undefined));
+  byId("close").addEventListener("click", closeTarget);
+  document.addEventListener("keydown", ({ key, target }) => {
+    // In a list of choices, Escape closes that list.
+    if (key === "Escape" && !target.matches("select")) {
+      closeTarget();
+    }
+  });
   byId("examples").addEventListener("click", ({ target }) => {
     if (target.dataset.text !== undefined) {
       load({ ...address.stateOf(target.dataset.text), triple: TRIPLES[shown.target] });
     }
   });
-  byId("copy-table").addEventListener("click", ({ currentTarget }) => {
-    copied(currentTarget, tableOf(shown.conditions, shown.values));
+  byId("copy-table").addEventListener("click", () => {
+    copied(tableOf(shown.conditions, shown.values));
   });
-  byId("copy-link").addEventListener("click", ({ currentTarget }) => {
+  byId("copy-link").addEventListener("click", () => {
     address.write(state());
-    copied(currentTarget, location.href);
+    copied(location.href);
   });
   address.start((found) => found && load(found));
 }

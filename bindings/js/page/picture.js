@@ -31,7 +31,8 @@ function cellOf(target) {
 /** Returns the element of the targets of a processor. */
 function processorOf([name, numbers]) {
   const cells = element("div", { class: "cells" }, ...numbers.map((target) => CELLS[target]));
-  return element("div", { class: "processor" }, element("h4", {}, name), cells);
+  return element("div", { class: "processor", role: "group", "aria-label": name },
+                 element("div", { class: "label", "aria-hidden": "true" }, name), cells);
 }
 
 /** Returns the element of the targets of a system, with its counts. */
@@ -68,8 +69,24 @@ export function countsOf(values) {
   return counts;
 }
 
-/** Shows values, by the numbers of targets, whose names are given. */
+/** Shows that there are no values. */
+function drawNone() {
+  CELLS.forEach((cell, target) => {
+    setAttribute(cell, "data-value", undefined);
+    cell.setAttribute("aria-label", TRIPLES[target]);
+  });
+  for (const { made, name, counts } of systems) {
+    counts.forEach((one) => setText(one, ""));
+    setAttribute(made, "aria-label", name);
+  }
+}
+
+/** Shows values, by the numbers of targets, whose names are given; or that there are none. */
 export function drawValues(numbers, names) {
+  if (numbers === undefined) {
+    drawNone();
+    return;
+  }
   CELLS.forEach((cell, target) => {
     const value = String(numbers[target]);
     if (cell.dataset.value !== value || cell.names !== names) {
@@ -93,11 +110,16 @@ export function drawValues(numbers, names) {
 export function select(target) {
   CELLS[current].tabIndex = -1;
   CELLS[current].removeAttribute("aria-current");
-  current = target ?? order[0];
+  current = target ?? current;
   CELLS[current].tabIndex = 0;
   if (target !== undefined) {
     CELLS[current].setAttribute("aria-current", "true");
   }
+}
+
+/** Puts the focus on the cell of a target. */
+export function focus(target) {
+  CELLS[target].focus();
 }
 
 /** Returns the cell nearest to another one, in the row above it (-1) or below it (1). */
@@ -122,14 +144,16 @@ function reached(key, from) {
            Home: () => order[0], End: () => order.at(-1) }[key]?.();
 }
 
-/** Puts the picture on the page. Calls back with the number of the target that is chosen. */
+/** Puts the picture on the page. Calls back with the number of the target that is chosen, and with
+ * `true` if it is opened, by a click or by Enter. */
 export function start(choose) {
   picture.replaceChildren(...systems.map(({ made }) => made));
   order.push(...[...picture.querySelectorAll(".cell")].map((cell) => CELLS.indexOf(cell)));
+  [current] = order;
   picture.addEventListener("click", (event) => {
     const cell = event.target.closest(".cell");
     if (cell !== null) {
-      choose(CELLS.indexOf(cell));
+      choose(CELLS.indexOf(cell), true);
     }
   });
   picture.addEventListener("keydown", (event) => {

@@ -135,8 +135,13 @@ export function showTarget(target, conditions, values, selected) {
     `${TRIPLES[target]}: ${NAMES[values[at].numbers[target]]}` : TRIPLES[target]);
 }
 
+/** Says where the details of the target are, for whom does not see them appear. */
+export function announceDetails() {
+  setText(byId("announced"), `${byId("announced").textContent}. Details are in One target.`);
+}
+
 /** Shows that no target is chosen. */
 export function showNone() {
   panel.replaceChildren(hint("Choose a cell, by a click or by the keyboard: Tab leads to the cells,"
-    + " and the arrow keys from one to another."));
+    + " and the arrow keys from one to another. Escape closes a target."));
 }

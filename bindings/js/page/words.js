@@ -4,6 +4,8 @@
 export const NAMES = ["no", "yes", "unknown"];
 /** What the values of the condition that two differ are called. */
 export const DIFFERENCES = ["same", "differ", "may differ"];
+/** What values are called while the line that has them is faulty. */
+export const PAST_NAMES = NAMES.map((name) => `${name} before the fault`);
 
 // What messages of the engine call a term, and what is said in its place.
 const TERMS = new Map([
@@ -43,6 +45,20 @@ export function listed(words, last = "or") {
     `${words.slice(0, -1).join(", ")} ${last} ${words.at(-1)}`;
 }
 
+/** Returns what is expected behind `key =`: a value in quotes. What the engine expects
+ * instead, which is what can begin a condition, is said beside it. */
+function expectedBehindEquals(expected, text, start) {
+  const [word] = /^[^\s,()"=]*/u.exec(text.slice(start));
+  const value = word ? `a value in quotes, such as "${word}".` : `${TERMS.get('"<value>"')}.`;
+  return expected[0] === "<key>" ?
+    `${value} A condition begins with ${listed(expected.map(termOf))}.` : value;
+}
+
+/** Returns what is said in place of a term of the engine. */
+function termOf(term) {
+  return TERMS.get(term) ?? term;
+}
+
 /** Returns what is said of something that may not stand there. */
 function unexpected({ expected, text, start, end }) {
   const found = start < end && end <= text.length ? `“${text.slice(start, end)}” ` : "";
@@ -52,9 +68,12 @@ function unexpected({ expected, text, start, end }) {
   if (expected[0] === "target_arch") {
     return `${found}is no key of a target. Expected: ${listed(expected)}.`;
   }
-  const terms = expected.map((term) => TERMS.get(term) ?? term);
+  if (found && /[^\s,()"=]\s*=\s*$/u.test(text.slice(0, start))) {
+    return `${found}is not expected here. Expected: ${
+      expectedBehindEquals(expected, text, start)}`;
+  }
   return `${found ? `${found}is not expected here` : "Something is missing"}. Expected: ${
-    listed(terms)}.`;
+    listed(expected.map(termOf))}.`;
 }
 
 /** Returns what is wrong with a text, and what was expected, in words. */

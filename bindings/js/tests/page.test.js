@@ -101,7 +101,7 @@ shows("shows the targets by system and processor", async () => {
   const systems = await page.see(`[...document.querySelectorAll(".system")].map((system) => [
     system.querySelector("h3").innerText,
     [...system.querySelectorAll(".processor")].map((one) => [
-      one.querySelector("h4").innerText,
+      one.innerText,
       [...one.querySelectorAll(".cell")].map((cell) => cell.dataset.triple),
     ]),
   ])`);
@@ -171,6 +171,11 @@ const FAULTS = [
   ['target_has_atomic = "x"', "x", 'Expected: a number of bits, such as "64", or "ptr".'],
   ["a, b", "a, b", "Several conditions stand side by side. Expected: one."],
   ["key =", "=", "Something is missing. Expected: a value in quotes"],
+  ["feature = 8", "8", '“8” is not expected here. Expected: a value in quotes, such as "8". '
+    + "A condition begins with a name such as unix, all, any or not."],
+  ["any(unix, key = 1.2)", "1", 'Expected: a value in quotes, such as "1.2".'],
+  ["target_os = linux", "linux", 'Expected: a value in quotes, such as "linux".'],
+  ["any(a = , b)", ",", 'Expected: a value in quotes, such as "linux".'],
   ['a = "é𝄞" b', "b", "Column 11: “b” is not expected here."],
   ['#[cfg(all(é, b))]', "é", "Column 11: “é” is not expected here."],
 ];
@@ -218,10 +223,38 @@ shows("takes a click into its text", async () => {
 shows("keeps the picture while a fault is typed", async () => {
   await page.write("windows");
   await page.press("(");
-  await checkPicture(triples(isWindows));
-  assert.equal(await page.see('"stale" in document.querySelector("#picture").dataset'), true);
+  assert.deepEqual(await shown(1), triples(isWindows).sort());
+  await checkFaulty(1);
+  assert.match(await page.see('document.querySelector(".cell").ariaLabel'), / before the fault$/);
   await page.press("Backspace");
-  assert.equal(await page.see('"stale" in document.querySelector("#picture").dataset'), false);
+  await checkPicture(triples(isWindows));
+  assert.equal(await page.see('getComputedStyle(document.querySelector("#cells")).filter'), "none");
+});
+
+/** Fails unless the picture says that a line is faulty, and has no counts and no colour. */
+async function checkFaulty(line) {
+  assert.equal(await page.text("#pictured"), `Fault in line ${line}`);
+  assert.deepEqual(await page.texts(".legend b"), ["", "", ""]);
+  assert.deepEqual(new Set(await page.texts(".system .count")), new Set([""]));
+  assert.equal(await page.see('getComputedStyle(document.querySelector("#cells")).filter'),
+               "grayscale(1)");
+}
+
+shows("has no values for a line that never had a condition", async () => {
+  await page.write("all(unix");
+  await checkFaulty(1);
+  assert.deepEqual([await shown(0), await shown(1), await shown(2)], [[], [], []]);
+  const labels = await page.see(`[...document.querySelectorAll(".cell, .system")]
+    .map((one) => one.ariaLabel).filter((label) => label.includes(":"))`);
+  assert.deepEqual(labels, []);
+  await page.write("unix\nany(");
+  await checkFaulty(2);
+  assert.deepEqual(await shown(1), []);
+  await page.write("");
+  assert.equal(await page.text("#pictured"), "No condition yet");
+  assert.deepEqual(await page.texts(".legend b"), ["", "", ""]);
+  await page.write("windows");
+  await checkPicture(triples(isWindows));
 });
 
 shows("moves nothing while one types", async () => {
@@ -300,8 +333,92 @@ shows("shows a target within the window, wherever its cell is", async () => {
   }
   // On a narrow page it stands over the cells, until it is closed.
   await page.click("#close");
-  assert.equal(await page.see('getComputedStyle(document.querySelector("#target")).position'),
-               "static");
+  assert.equal(await page.see('getComputedStyle(document.querySelector("#target")).display'),
+               "none");
+});
+
+shows("has the comparison in front of the targets on a narrow page", async () => {
+  await page.resize(390, 800);
+  await page.write("unix\nwindows");
+  assert.equal(await page.see('getComputedStyle(document.querySelector("#target")).display'),
+               "none");
+  const [compare, picture] = await page.see(`["#compare", "#picture"].map((one) => (
+    document.querySelector(one).getBoundingClientRect().top))`);
+  assert.ok(compare < picture, `${compare} ${picture}`);
+});
+
+shows("closes a target by Escape, and says where its details are", async () => {
+  await page.write("unix");
+  const triple = "x86_64-unknown-linux-gnu";
+  await choose(triple);
+  for (const selector of ["#close", `.cell[data-triple="${triple}"]`, "#text"]) {
+    await page.see(`document.querySelector('${selector}').focus()`);
+    await page.press("Escape");
+    assert.match(await page.text("#why"), /^Choose a cell, /);
+    assert.equal(await page.see("document.activeElement.dataset.triple"), triple, selector);
+    await page.press("Enter");
+    assert.equal(await page.text("#announced"), `${triple}: yes. Details are in One target.`);
+    assert.equal(await page.text("#why .triple"), triple);
+  }
+  await page.press("ArrowRight");
+  assert.doesNotMatch(await page.text("#announced"), /Details/);
+  for (const [selector, live] of [["#announced", "status"], ["#comparison", "polite"]]) {
+    const one = `document.querySelector("${selector}")`;
+    assert.equal(await page.see(`${one}.getAttribute("aria-live") ?? ${one}.role`), live);
+  }
+});
+
+shows("reads a comparison out again only if it changed", async () => {
+  await page.write("unix\nwindows");
+  await page.see('document.querySelector("#comparison li").dataset.before = ""');
+  await choose("x86_64-unknown-linux-gnu");
+  await page.click("#list button");
+  assert.equal(await page.see('document.querySelectorAll("[data-before]").length'), 1);
+  await page.write("unix\ntest");
+  assert.equal(await page.see('document.querySelectorAll("[data-before]").length'), 0);
+});
+
+shows("labels the groups of processors, which are no headings", async () => {
+  const groups = await page.see(`[...document.querySelectorAll(".processor")].map((one) => (
+    [one.role, one.ariaLabel, one.innerText]))`);
+  assert.ok(groups.length > 30);
+  for (const [role, label, text] of groups) {
+    assert.deepEqual([role, label], ["group", text]);
+  }
+  assert.equal(await page.see('document.querySelectorAll("#cells h4").length'), 0);
+});
+
+shows("hides no line of its boxes", async () => {
+  const names = "abcdef";
+  await page.write([...names].map((name) => `all(${name}, unix, not(target_vendor = "apple"))`)
+    .join("\n"));
+  assert.equal((await page.texts("#list li")).length, names.length);
+  await decide("a", "on");
+  for (const width of [1280, 390]) {
+    await page.resize(width, 900);
+    await page.settle();
+    const cut = await page.see(`[...document.querySelectorAll("#counts *, #decide *, #compare *")]
+      .filter((one) => getComputedStyle(one).overflowY !== "visible" &&
+                       one.scrollHeight > one.clientHeight + 1)
+      .map((one) => one.id || one.className || one.tagName)`);
+    assert.deepEqual(cut, [], String(width));
+    const out = await page.see(`["#counts", "#decide", "#compare"].filter((card) => {
+      const { bottom } = document.querySelector(card).getBoundingClientRect();
+      return [...document.querySelectorAll(card + " *")]
+        .some((one) => one.getBoundingClientRect().bottom > bottom);
+    })`);
+    assert.deepEqual(out, [], String(width));
+  }
+});
+
+shows("says what a condition, a target and a feature are", async () => {
+  assert.equal(await page.see('document.querySelector("#terms").open'), false);
+  await page.click("#terms summary");
+  assert.equal(await page.see('document.querySelector("#terms").open'), true);
+  const terms = await page.see(`[...document.querySelectorAll("#terms dt")]
+    .map((one) => [one.innerText, one.nextElementSibling.innerText.length > 20])`);
+  const wanted = ["unix", "all(..)", "any(..)", "not(..)", "Target", "Feature"];
+  assert.deepEqual(terms, wanted.map((term) => [term, true]));
 });
 
 shows("shows the two fillings of what is unknown", async () => {
@@ -409,6 +526,11 @@ function told() {
   return page.texts("#comparison li");
 }
 
+/** Returns the words for whether a condition implies another. */
+function implies(one, other) {
+  return `Where ${one} is true, ${other} is true too`;
+}
+
 shows("compares two conditions", async () => {
   await page.write('target_os = "macos"\ntarget_vendor = "apple"');
   const macos = triples((one) => one.target_os === "macos");
@@ -416,8 +538,9 @@ shows("compares two conditions", async () => {
   const [counts, forth, back] = await told();
   const apart = apple.length - macos.length;
   assert.equal(counts, `Different on ${apart} targets, and the same on ${320 - apart}.`);
-  assert.equal(forth, "1 implies 2: on every target, whatever the switches say.");
-  const wanted = /^2 implies 1: not on every target\. On (\S+), 2 is yes and 1 is no\.$/;
+  assert.equal(forth, `${implies(1, 2)}: on every target, whatever the switches say.`);
+  const wanted = new RegExp(`^${implies(2, 1)}: not on every target\\. On (\\S+), `
+    + "2 is yes and 1 is no\\.$");
   const [, triple] = wanted.exec(back);
   assert.ok(apple.includes(triple) && !macos.includes(triple), triple);
   await page.click(`#comparison [data-triple="${triple}"]`);
@@ -430,11 +553,46 @@ shows("compares two conditions", async () => {
   await checkPicture(apple);
 });
 
+shows("compares the first two conditions until others are chosen", async () => {
+  const choices = () => page.see(`["#first", "#second"].map((one) => (
+    document.querySelector(one).value))`);
+  await page.write("unix");
+  await page.press("Enter");
+  await page.send("Input.insertText", { text: "windows" });
+  await page.settle();
+  assert.deepEqual(await choices(), ["0", "1"]);
+  assert.match((await told())[0], /^Different on /);
+  await page.click("#examples button");
+  assert.deepEqual(await told(), []);
+  await page.write("unix\nwindows\ntest");
+  await page.choose("#second", "2");
+  assert.deepEqual(await choices(), ["0", "2"]);
+  await page.click("#text");
+  await page.press(" ");
+  assert.deepEqual(await choices(), ["0", "2"]);
+  // A line vanishes, and another one appears.
+  await page.write("unix\nwindows");
+  assert.deepEqual(await choices(), ["0", "1"]);
+  await page.write("unix\nwindows\ntest");
+  assert.deepEqual(await choices(), ["0", "1"]);
+});
+
+shows("compares again after a fault", async () => {
+  await page.write("all(unix");
+  assert.deepEqual(await told(), []);
+  assert.equal(await page.see('document.querySelector("#compare-few").hidden'), false);
+  await page.write("unix\nwindows");
+  assert.equal(await page.text("#pictured"), "windows");
+  assert.deepEqual(await page.texts("#first option"), ["1: unix", "2: windows"]);
+  const [, ...sentences] = await told();
+  assert.deepEqual(sentences.map((one) => one.match(/\d/g).slice(0, 2).join()), ["1,2", "2,1"]);
+});
+
 shows("names conditions by their lines", async () => {
   await page.write("unix\n\n  \nwindows");
   assert.deepEqual(await page.texts("#list .number"), ["1", "4"]);
   assert.deepEqual(await page.texts("#first option"), ["1: unix", "4: windows"]);
-  assert.match((await told())[1], /^1 implies 4: not on every target/);
+  assert.ok((await told())[1].startsWith(`${implies(1, 4)}: not on every target`));
   await page.click("#differences");
   assert.equal(await page.text("#pictured"), "Where 1 and 4 differ");
   assert.match(await page.text("#fault"), /^Line 4: true on /);
@@ -447,15 +605,32 @@ shows("compares conditions with what no target says", async () => {
   const macos = triples((one) => one.target_os === "macos");
   const start = "not on every target\\. On \\S+, with feature = \"x\"";
   const [counts, forth, back] = await told();
-  assert.match(forth, new RegExp(`^1 implies 3: ${start} off, 1 is yes and 3 is no\\.$`));
-  assert.match(back, new RegExp(`^3 implies 1: ${start} on, 3 is yes and 1 is no\\.$`));
+  assert.match(forth, new RegExp(`^${implies(1, 3)}: ${start} off, 1 is yes and 3 is no\\.$`));
+  assert.match(back, new RegExp(`^${implies(3, 1)}: ${start} on, 3 is yes and 1 is no\\.$`));
   assert.equal(counts, `Different on 0 targets, the same on ${320 - unix.length}, and on ${
     unix.length} as the switches say.`);
   await decide('feature = "x"', "on");
   const apart = unix.length - macos.length;
   assert.match((await told())[0], new RegExp(`^Different on ${apart} targets`));
-  // What the switches say changes nothing in the sentences about all of them.
+  // What the switches say changes nothing in the sentences about all of them, and has its own.
+  const now = (text) => ` As the switches stand: ${text}.`;
+  assert.deepEqual((await told()).slice(1), [`${forth}${now("on every target")}`,
+                                             `${back}${now(`not on ${apart} targets`)}`]);
+  await decide('feature = "x"', "off");
+  assert.deepEqual((await told()).slice(1),
+                   [`${forth}${now(`not on ${macos.length} targets`)}`,
+                    `${back}${now("on every target")}`]);
+  await decide('feature = "x"', "unknown");
   assert.deepEqual((await told()).slice(1), [forth, back]);
+});
+
+shows("says what switches leave unknown of two conditions", async () => {
+  await page.write("all(unix, a)\nall(unix, a, b)");
+  await decide("a", "on");
+  const [, forth, back] = await told();
+  const unix = triples(isUnix).length;
+  assert.ok(forth.endsWith(`As the switches stand: unknown on ${unix} targets.`), forth);
+  assert.equal(back, `${implies(2, 1)}: on every target, whatever the switches say.`);
 });
 
 shows("compares conditions in which predicates repeat", async () => {
@@ -464,13 +639,13 @@ shows("compares conditions in which predicates repeat", async () => {
   const rows = [
     ['any(feature = "x", not(feature = "x"))\nall()', equal],
     ["all(a, b)\nnot(any(not(a), not(b)))", equal],
-    ["all(a, not(a))\nwindows", ["1 implies 2: on every target, whatever the switches say.",
-                                 not("2 implies 1", "with a (on|off), 2 is yes and 1 is no")]],
-    ["a\nb", [not("1 implies 2", "with a on, b off, 1 is yes and 2 is no"),
-              not("2 implies 1", "with b on, a off, 2 is yes and 1 is no")]],
+    ["all(a, not(a))\nwindows", [`${implies(1, 2)}: on every target, whatever the switches say.`,
+                                 not(implies(2, 1), "with a (on|off), 2 is yes and 1 is no")]],
+    ["a\nb", [not(implies(1, 2), "with a on, b off, 1 is yes and 2 is no"),
+              not(implies(2, 1), "with b on, a off, 2 is yes and 1 is no")]],
     ["all(unix, a)\nany(all(unix, a), b)", [
-      "1 implies 2: on every target, whatever the switches say.",
-      not("2 implies 1", "with (a off, b on|b on, a off|b on), 2 is yes and 1 is no"),
+      `${implies(1, 2)}: on every target, whatever the switches say.`,
+      not(implies(2, 1), "with (a off, b on|b on, a off|b on), 2 is yes and 1 is no"),
     ]],
   ];
   for (const [text, wanted] of rows) {
@@ -503,7 +678,8 @@ shows("says what was not tried out", async () => {
   assert.deepEqual((await told()).slice(1), [equal]);
   await page.write(parities(9));
   const untried = "not tried out, since there are too many ways to set the switches.";
-  assert.deepEqual((await told()).slice(1), [`1 implies 2: ${untried}`, `2 implies 1: ${untried}`]);
+  assert.deepEqual((await told()).slice(1),
+                   [`${implies(1, 2)}: ${untried}`, `${implies(2, 1)}: ${untried}`]);
 });
 
 shows("keeps what it shows in its address", async () => {
@@ -537,7 +713,11 @@ shows("copies the table and the link", async () => {
   await page.write('unix\nany(windows, feature = "x")');
   const pasted = async (button) => {
     await page.click(button);
-    await page.until(`"copied" in document.querySelector("${button}").dataset`);
+    await page.until('document.querySelector("#copied").innerText === "Copied."');
+    assert.ok(await page.see(`(() => {
+      const { top, bottom, width } = document.querySelector("#copied").getBoundingClientRect();
+      return top >= 0 && bottom <= innerHeight && width > 20;
+    })()`));
     await page.click("#text");
     await page.press("Control+a", ["selectAll"]);
     await page.press("Control+v", ["paste"]);
@@ -696,9 +876,9 @@ function contrasts() {
       return 0.2126 * red + 0.7152 * green + 0.0722 * blue;
     };
     const card = light(getComputedStyle(document.querySelector(".card")).backgroundColor);
-    return ["h1", "h2", "h3", ".processor h4", "#fault", ".about", ".facts dt", "#examples button",
-            ".line [data-kind=key]", ".line [data-kind=value]", ".line [data-kind=any]",
-            ".verdict b", ".link"].map((name) => {
+    return ["h1", "h2", "h3", ".processor .label", "#fault", ".about", ".facts dt",
+            "#examples button", ".line [data-kind=key]", ".line [data-kind=value]",
+            ".line [data-kind=any]", ".verdict b", ".link"].map((name) => {
       const text = light(getComputedStyle(document.querySelector(name)).color);
       return [name, (Math.max(text, card) + 0.05) / (Math.min(text, card) + 0.05)];
     });
