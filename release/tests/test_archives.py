@@ -36,6 +36,7 @@ HERE = "x86_64-unknown-linux-gnu"
 # The manual page of the command, and what shells read to complete its words: bash as its package
 # `bash-completion` says, fish in a folder for vendors, and zsh where `fpath` has its functions.
 MANUAL = f"{DATA}/data/share/man/man1/cfgx-deps.1"
+CODE_MANUAL = f"{DATA}/data/share/man/man1/cfgx-code.1"
 COMPLETING = {
     "bash": f"{DATA}/data/share/bash-completion/completions/cfgx-deps",
     "fish": f"{DATA}/data/share/fish/vendor_completions.d/cfgx-deps.fish",
@@ -252,7 +253,7 @@ class Wheel(unittest.TestCase):
         code = [path[len(top):] for path in repository.tracked(top)]
         told = [f"{INFORMATION}/{name}"
                 for name in ("METADATA", "RECORD", "WHEEL", "entry_points.txt")]
-        told += [MANUAL, *COMPLETING.values()]
+        told += [MANUAL, CODE_MANUAL, *COMPLETING.values()]
         others = (f"{INFORMATION}/licenses/", f"{DATA}/data/share/doc/cfgx/")
         names = self.archive.namelist()
         self.assertEqual(len(names), len({*names}))

@@ -66,7 +66,7 @@ class Libraries(User):
             needed = re.findall(r"NEEDED.*\[(.*)\]", self.succeed("readelf", "-dW", path))
             self.assertLessEqual(set(needed), NEEDED)
         page = repository.read_text("docs/RELEASE.md")
-        self.assertIn(f"glibc {GLIBC} or later, and the program {PROGRAM_GLIBC}.", page)
+        self.assertIn(f"glibc {GLIBC} or later, or musl, and the program glibc {PROGRAM_GLIBC}.", page)
 
     def test_how_they_are_loaded(self):
         self.need("how the libraries of a release are loaded", "readelf")

@@ -14,6 +14,7 @@ import zipfile
 from . import RUST, SONAME, VERSION, WHEEL, WHEELS
 
 import repository
+from targets import FAMILIES
 
 MAKE = os.path.join(repository.ROOT, "release", "make")
 TOOLS = ("git", "rt", "cc", "ld")
@@ -236,9 +237,11 @@ class Runs(Copy):
         self.assertEqual(self.run_make().returncode, 0)
         sums = self.run_words("sha256sum", self.path("docs/OTHER.md"))[:64]
         rows = [line[66:] for line in self.manifest() if line.startswith(sums)]
+        # The archives for C, the wheels, the crate and the package for JavaScript.
         self.assertEqual([row[row.index("/"):] for row in rows], [
-            "/docs/OTHER.md", *["/data/share/doc/cfgx/docs/OTHER.md"] * len(WHEELS),
-            "/docs/OTHER.md",
+            *["/docs/OTHER.md"] * len(FAMILIES),
+            *["/data/share/doc/cfgx/docs/OTHER.md"] * len(WHEELS),
+            "/docs/OTHER.md", "/docs/OTHER.md",
         ])
 
 

@@ -148,7 +148,7 @@ class Sums(unittest.TestCase):
     """SHA256SUMS."""
 
     def test_sums(self):
-        names = sorted([*NAMES, "MANIFEST.txt"])
+        names = sorted([*NAMES, "cfgx.html", "MANIFEST.txt"])
         self.assertEqual(sorted(os.listdir(FOLDER)), sorted([*names, "SHA256SUMS"]))
         wanted = []
         for name in names:

@@ -83,6 +83,9 @@ class Page(Shown):
         self.check("With musl")
 
     def test_sums(self):
-        command, = re.findall(r"`(sha256sum .*?)`", PAGE)
-        others = {"SHA256SUMS"}
-        self.assertEqual(len(self.lines_of(*command.split())), len({*os.listdir(FOLDER)} - others))
+        # Both compare each file, since all are there.
+        commands = re.findall(r"`(sha256sum .*?)`", PAGE)
+        self.assertEqual(len(commands), 2)
+        count = len({*os.listdir(FOLDER)} - {"SHA256SUMS"})
+        for command in commands:
+            self.assertEqual(len(self.lines_of(*command.split())), count, command)

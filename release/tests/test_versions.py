@@ -7,9 +7,13 @@ import sys
 import tempfile
 import unittest
 
-from . import C, RUST, SONAME, VERSION, WHEEL
+from . import RUST, SONAME, VERSION
 
 import repository
+from targets import FAMILIES
+
+# What says in which version each member of the JSON of `cfgx-deps` came.
+MEMBERS = ("bindings/python/src/cfgx/manifest/schema.json", "docs/MANIFESTS.md")
 
 # Each installed file that has the version, and what stands around it there.
 INSTALLED = (
@@ -81,8 +85,10 @@ class Versions(unittest.TestCase):
                                  "pkgconfig"])
         page = repository.read_text("docs/RELEASE.md")
         named = re.findall(r"^\| `(.*?)` \|", page, re.M)
-        self.assertEqual(named, [f"{C}.tar.gz", WHEEL, f"{RUST}.tar.gz", "MANIFEST.txt",
-                                 "SHA256SUMS"])
+        self.assertEqual(named, [f"{RUST}.tar.gz", "cfgx.html", f"cfgx-{VERSION}.tgz",
+                                 "MANIFEST.txt", "SHA256SUMS"])
+        for family in FAMILIES:
+            self.assertIn(f"`cfgx-{VERSION}-{family}.tar.gz`", page)
 
 
 class Changes(unittest.TestCase):
@@ -138,11 +144,12 @@ class Changes(unittest.TestCase):
         self.assertEqual(self.changed(), [])
 
     def check_no_old_version(self):
-        """Expects that no file names the old version, but for the history in CHANGELOG."""
+        """Expects that no file names the old version, but for CHANGELOG, and for what says since
+        when a member of the JSON is there."""
         short, shown = re.escape(VERSION.rsplit(".", 1)[0]), re.escape(VERSION)
         forms = (rf"\b{shown}\b", rf"libcfgx\.so\.{short}\b", str(number()), f"{number():_}")
         found = []
-        for path in {*repository.tracked()} - {"CHANGELOG.md"}:
+        for path in {*repository.tracked()} - {"CHANGELOG.md", *MEMBERS}:
             with open(os.path.join(self.top, path), "rb") as file:
                 text = file.read().decode(errors="replace")
             found += [(path, form) for form in forms if re.search(form, text)]

@@ -85,4 +85,4 @@ class Wheels(Folder):
         subprocess.run(["cc", "-shared", "-fPIC", "-o", other, source], check=True)
         status, printed, wheels = self.build(other)
         self.assertEqual((status != 0, wheels), (True, []))
-        self.assertIn("is version 2004000, and the package calls libcfgx.so.2.3", printed)
+        self.assertIn(f"is version 2004000, and the package calls {_library.NAME}", printed)
