@@ -130,8 +130,9 @@ def report(
     - `progress` is called with the number of targets of which `rustc` was asked so far, and with
       that of all of them.
 
-    A parameter has the name of an option of the command. The manifest is a regular file of at most a megabyte, and so is each other file that is read.
-    The values that are unknown to the engine share a budget: beyond it, `is_tried` is false.
+    A parameter has the name of an option of the command. The manifest is a regular file of at most
+    a megabyte, and so is each other file that is read. The values that are unknown to the engine
+    share a budget: beyond it, `is_tried` is false.
 
     Raises a `ManifestError`, or `TypeError` if a text stands for a list.
     """
