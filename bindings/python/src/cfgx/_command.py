@@ -117,9 +117,9 @@ def only(found: Found, wanted: Sequence[str]) -> Found:
             or (UNKNOWN in wanted and is_unknown(row.values))
         )
 
-    if isinstance(found, Resolved):
-        return dataclasses.replace(found, rows=tuple(filter(is_wanted, found.rows)))
-    return dataclasses.replace(found, rows=tuple(filter(is_wanted, found.rows)))
+    # The rows of a report are of its own kind, which a type of both reports does not say.
+    rows: Any = tuple(filter(is_wanted, found.rows))
+    return dataclasses.replace(found, rows=rows)
 
 
 def width_of(words: argparse.Namespace) -> Optional[int]:
