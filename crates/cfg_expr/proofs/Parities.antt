@@ -113,7 +113,7 @@ module _ (nodes : List ExprNode) (tree : Tree Question)
         (ap (filled_by answers) (sym (AllZip-map (turned fill) (asked parities) _
         (asked-alike (Turned fill) parities _ (turned-alike fill false tree)))))
 
--- The same of the nodes of a text's one tree, and of the places of its predicates.
+-- The nodes of a text's one tree are passed, and so are the places of its predicates.
 
 module _ {text : List ℕ} (nodes : List ExprNode)
     (kept : (one : HasOneTree text) × (map (node_at text) nodes ≡ prefix one.tree)) where

@@ -273,10 +273,10 @@ impl<A: SmallAllocator> Expression<A> {
         self.condition().eval_lanes(alloc, answers)
     }
 
-    /// Compiles the condition to steps. Read from the last to the first with a stack, they give what
-    /// `eval` gives. `eval_steps` reads them so, and callers may write this loop in other languages.
-    /// It may join the members of a function in any order if `and` and `or` are commutative and
-    /// associative. For any other logic it has to keep the order of `eval`.
+    /// Compiles the condition to steps. Read from the last to the first with a stack, they give
+    /// what `eval` gives. `eval_steps` reads them so, and callers may write this loop in other
+    /// languages. It may join the members of a function in any order if `and` and `or` are
+    /// commutative and associative. For any other logic it has to keep the order of `eval`.
     ///
     /// A predicate, a literal and a function are one step each, as they stand in the text: the step
     /// of a function comes before those of its members. A step that asks has the number of its

@@ -235,7 +235,7 @@ RefusesText-failure {A} text (failure.Parse error) utf8 (found, is, reads) =
     let all = All-cons IsUtf8 text [] utf8 (All-nil IsUtf8) in
     grind arith
 
--- the same of a text that was stripped
+-- the refusal of a text that was stripped
 pub RefusesText-stripped : {A : Type 0} {text : List ℕ} {stripped : Stripped} (failed : Failure A)
     → IsStripped text stripped → IsUtf8 text → Answers {A = A} stripped.text.now (Err failed)
     → RefusesText text text_statuses (text_refusal {A = A} 0 stripped.offset failed)

@@ -57,8 +57,8 @@ impl PartialOrd for AskedTexts<'_> {
     }
 }
 
-/// The kinds are compared first, and then the numbers that are asked for: a predicate without such a
-/// number is less than one with it. Then the lengths of key and value are compared, and last the
+/// The kinds are compared first, and then the numbers that are asked for: a predicate without such
+/// a number is less than one with it. Then the lengths of key and value are compared, and last the
 /// bytes of both. So texts are compared only if all numbers are equal.
 impl Ord for AskedTexts<'_> {
     ghost cmp = { on texts_code code_cmp };
@@ -70,7 +70,8 @@ impl Ord for AskedTexts<'_> {
     ghost matches_eq = { λ one other. lists_ties (slice_cmp nat_cmp) texts_ties (texts_code one)
         (texts_code other) };
 
-    // Inlined, since most that a search meets are of another kind, so that nothing else is compared.
+    // Inlined, since most predicates that a search meets are of another kind, and then nothing else
+    // is compared.
     #[inline(always)]
     fn cmp(&self, other: &Self) -> Ordering
         ensures { result ≡ code_cmp (texts_code self.now) (texts_code other.now) }

@@ -125,7 +125,8 @@ impl Connective {
 
     /// Returns the joined value of the members: first the leaves are joined and then the functions,
     /// each from the last to the first. The members are in the order of the text. `cfg-expr` joins
-    /// in the same order, which matters to a `Logic` in which `a.and(b)` may differ from `b.and(a)`.
+    /// in the same order, which matters to a `Logic` in which `a.and(b)` may differ from
+    /// `b.and(a)`.
     fn join_all<T: Logic>(self, members: &mut [Slot<T>]) -> T
         ensures { result ≡ joined T.Logic self members.old }
     {
@@ -250,8 +251,8 @@ fn eval_nodes<T: Logic>(nodes: &[ExprNode], slots: &mut [Slot<T>]) -> Option<T>
 }
 
 /// Pushes `count` empty slots to `slots`, which is new. Up to 33 are inline and take no memory.
-/// `eval_steps` promises this for 33 steps. `eval` promises it for a text of at most 32 bytes, which
-/// has at most 32 nodes, since a text has no more nodes than bytes.
+/// `eval_steps` promises this for 33 steps. `eval` promises it for a text of at most 32 bytes,
+/// which has at most 32 nodes, since a text has no more nodes than bytes.
 // A new vector that was returned in a `Result` would be copied out of it.
 pub(super) fn push_empty_slots<T: Logic, A: Allocator>(
     slots: &mut SmallVec<Slot<T>, 33, &A>,

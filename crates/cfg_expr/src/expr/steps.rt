@@ -196,8 +196,8 @@ fn write_nodes<T: FromStep>(nodes: &[ExprNode], buffer: &mut [T])
     }
 }
 
-/// Writes steps that ask for the answers 0, 1, 2 and so on, one at each of `places`, over those that
-/// `write_nodes` wrote.
+/// Writes steps that ask for the answers 0, 1, 2 and so on, one at each of `places`, over those
+/// that `write_nodes` wrote.
 fn write_numbers<T: FromStep>(places: &[usize], buffer: &mut [T])
     requires { AllByRecursion (λ place. place < length buffer.old) places.now }
     ensures { buffer.new ≡ put_at buffer.old places.now

@@ -20,7 +20,8 @@ unreachable-requires c =
     let found = Writes-next c.loop-i.invariant c.loop-i-test.true c.next.result c.next.new.self
     c.next.ensures.steps in
     elim c.in_default.branch [
-      | in_default-via-in-Some+in_default w ↦ absurd (let is = found.1 in grind (arith, common_steps))
+      | in_default-via-in-Some+in_default w ↦
+        absurd (let is = found.1 in grind (arith, common_steps))
       | in_default-via-in_default w ↦ absurd (not_both w.in_default.is found.1)
     ]
 
