@@ -74,6 +74,8 @@ fn c_number(asked: Asked) -> u32
     ensures { result ≡ c_number asked }
 {
     match asked {
+        // Most predicates ask for a text. One test passes them, where `number` takes several.
+        Asked::Target(AskedTarget::Text(_)) => 0,
         Asked::Target(AskedTarget::HasAtomic(HasAtomic::Pointer)) => 65536,
         _ => asked.number().unwrap_or(0),
     }
