@@ -80,8 +80,10 @@ def module_of(target: str, folder: str) -> Module:
     verdict, = re.findall(r"^logic=proved .*$", printed, re.M)
     if target not in verdict.replace("=", " ").split():
         raise ToolError(f"the kit says of another target that it is proved: {verdict}")
+    if " cpu=" in verdict:
+        raise ToolError(f"the code is not for each processor of the target: {verdict}")
     if target == X86 and not is_same(archive, BUILT):
-        raise ToolError("crates/cfgx_c/out has another archive: run `rt lib` in crates/cfgx_c")
+        raise ToolError("crates/cfgx_c/out has another archive: run `rt lib --cpu x86-64` there")
     text = os.path.join(folder, "module.ll")
     output_of(tool("clang"), f"--target={target}", "-S", "-emit-llvm", "-Xclang",
               "-disable-llvm-passes", "-x", "ir", os.path.join(folder, "module"), "-o", text)

@@ -11,7 +11,7 @@ from bisect import bisect_left
 from ctypes import POINTER, c_char_p, c_size_t, c_uint8, c_uint32
 from typing import Any, Callable, List, Optional, Sequence, Tuple, Union
 
-from . import __version__, _processor
+from . import __version__
 
 # The package calls a library whose first two numbers are its own, and which has the calls below.
 LANGUAGE, MAJOR = map(int, __version__.split(".")[:2])
@@ -100,12 +100,6 @@ def import_error(message: str) -> ImportError:
 
 def load(path: str) -> Any:
     """Returns the library at a path, whose calls know their arguments."""
-    missing = _processor.missing()
-    if missing:
-        raise import_error(
-            "cfgx needs a processor of the level x86-64-v2, which has SSE4.2. This one lacks"
-            f" {', '.join(missing)}."
-        )
     try:
         library = ctypes.CDLL(path)
         for name, arguments in ARGUMENTS.items():
