@@ -138,6 +138,26 @@ class Reading(unittest.TestCase):
                          ("m", ("x.rs",), False, ["a"]))
         self.assertEqual((other.name, other.folders, other.has_usual_path), ("o", ("n",), True))
 
+    def test_paths_of_modules(self):
+        for code, wanted, usual in (
+            ('#[path = "x.rs"] mod m;', ["x.rs"], []),
+            ('#[cfg_attr(a, path = "x.rs")] mod m;', ["x.rs a"], ["not(a)"]),
+            ('#[cfg_attr(a, path = "x.rs")] #[cfg_attr(b, doc = "", path /**/ = "y.rs")] mod m;',
+             ["x.rs a"], ["not(a)"]),
+            ('#[cfg_attr(a, path = "x.rs")] #[cfg_attr(b, doc = "", path = "y.rs")] mod m;',
+             ["x.rs a", "y.rs b"], ["not(a)", "not(b)"]),
+            ('#[cfg_attr(a, cfg_attr(b, path = "x.rs"))] #[cfg(c)] mod m;',
+             ["x.rs all(a, b)"], ["not(all(a, b))"]),
+            ('#[cfg_attr($a, path = "x.rs")] mod m;', ["x.rs None"], [None]),
+            ('#[cfg_attr(a, path = "x.rs")] mod m; mod n;', ["x.rs a"], ["not(a)"]),
+        ):
+            with self.subTest(code=code):
+                one = read(code).modules[0]
+                self.assertEqual(len(one.paths), len(one.path_guards))
+                paths = zip(one.paths, map(guards_of, one.path_guards))
+                self.assertEqual([" ".join([path, *map(str, of)]) for path, of in paths], wanted)
+                self.assertEqual(guards_of(one.usual_guard), usual)
+
     def test_recorded(self):
         # What rustc 1.95 sees in files that are made, as tests/judge_code records it.
         with open(RECORDED, encoding="utf-8") as file:

@@ -185,6 +185,31 @@ class Files(Made):
             "src/n/inner.rs": ("unix", ["never"]), "src/alone.rs": ("", ["platforms"]),
         })
 
+    def test_paths_with_a_condition(self):
+        report = self.report(
+            lib='#[cfg_attr(windows, path = "win.rs")] mod sys; #[cfg_attr(a, path = "x.rs")]'
+                ' #[cfg_attr(b, cfg_attr(c, path = "y.rs"))] #[cfg(unix)] mod m;',
+            win="#[cfg(windows)] fn f() {}", x="#[cfg(a)] fn f() {}",
+            y="#[cfg(all(b, c))] fn f() {}",
+            sys='#[cfg(target_os = "linux")] fn f() {} #[cfg(target_os = "macos")] fn f() {}'
+                " #[cfg(windows)] fn g() {} #[cfg(windows)] fn g() {}",
+            m="#[cfg(a)] fn f() {}",
+        )
+        found = {os.path.relpath(file.path, self.folder): (
+            " ".join(file.context), [row.verdict.value for row in file.rows]
+        ) for file in report.files}
+        del found["src/lib.rs"]
+        self.assertEqual(found, {
+            "src/win.rs": ("windows", ["always"]), "src/x.rs": ("unix a", ["always"]),
+            "src/y.rs": ("unix all(b, c)", ["always"]),
+            "src/sys.rs": ("not(windows)", ["platforms", "platforms", "never", "never"]),
+            "src/m.rs": ("unix not(a) not(all(b, c))", ["never"]),
+        })
+        # On Windows the file with these is not there.
+        [sys] = [file for file in report.files if file.path.endswith("sys.rs")]
+        told = [(shown(group.none), shown(group.two)) for group in sys.groups]
+        self.assertEqual(told, [("nnny", "nnnn"), ("yyny", "nnnn")])
+
     def test_a_file_of_two_modules(self):
         report = self.report(
             lib='#[cfg(windows)] #[path = "x.rs"] mod a;'

@@ -94,7 +94,8 @@ class Maker:
     def _module(self, one: _reader.Declared) -> Module:
         """Returns a module that has a file of its own."""
         return Module(one.name, one.folders, one.paths, one.has_usual_path,
-                      self._point(one.start), self._guard(one.guard))
+                      self._point(one.start), self._guard(one.guard),
+                      tuple(map(self._guard, one.path_guards)), self._guard(one.usual_guard))
 
     def _point(self, character: int) -> Place:
         """Returns the place at a character."""

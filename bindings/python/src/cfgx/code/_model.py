@@ -185,6 +185,10 @@ class Module(NamedTuple):
     """Where it begins."""
     guard: Optional[Guard]
     """The innermost of what has to hold for it to be there."""
+    path_guards: Tuple[Optional[Guard], ...]
+    """For each of the paths, what has to hold beside this for its attribute to be there."""
+    usual_guard: Optional[Guard]
+    """What has to hold beside this for its file to be the one that its name says."""
 
 
 @dataclasses.dataclass(frozen=True)

@@ -1,12 +1,13 @@
 """Which file has the code of a module, and what has to hold for a file to be compiled.
 
 A file is looked for where rustc looks for it. If several modules have one file, or a module may
-have several files, each of them counts. A file that no module has is compiled by itself.
+have several files, each of them counts, where the `cfg_attr` with its path has its condition. A
+file that no module has is compiled by itself.
 """
 import os
-from typing import Dict, Iterator, List, NamedTuple, Optional, Sequence, Set
+from typing import Dict, Iterator, List, NamedTuple, Optional, Sequence, Set, Tuple
 
-from ._model import Code, Module
+from ._model import Code, Guard, Module
 from ._values import MOST_CHARACTERS, all_of, guard_texts
 
 # The files whose modules stand beside them, and those that no module has.
@@ -19,6 +20,8 @@ class Use(NamedTuple):
     file: int
     """The number of the file where the module stands."""
     module: Module
+    guard: Optional[Guard]
+    """What has to hold beside the guard of the module for this to be its file."""
 
 
 class Modules:
@@ -32,23 +35,25 @@ class Modules:
         self._contexts: Dict[int, Optional[List[str]]] = {}
         for number, code in enumerate(codes):
             for module in code.modules:
-                for found in self._files_of(number, module):
-                    self._uses.setdefault(found, []).append(Use(number, module))
+                for found, guard in self._files_of(number, module):
+                    self._uses.setdefault(found, []).append(Use(number, module, guard))
 
-    def _files_of(self, number: int, module: Module) -> Iterator[int]:
-        """Yields the numbers of the files that may have the code of a module."""
+    def _files_of(self, number: int, module: Module) -> Iterator[Tuple[int, Optional[Guard]]]:
+        """Yields the numbers of the files that may have the code of a module, each with what has to
+        hold for it beside the guard of the module."""
         folder, name = os.path.split(self._paths[number])
         stem = os.path.splitext(name)[0]
         folders = [folder] if name in BESIDE else [os.path.join(folder, stem), folder]
-        for path in module.paths:
-            yield from self._number_of(folder, *module.folders, path)
+        for path, guard in zip(module.paths, module.path_guards):
+            found = [*self._number_of(folder, *module.folders, path)]
             if module.folders:
-                yield from self._number_of(folder, stem, *module.folders, path)
+                found += self._number_of(folder, stem, *module.folders, path)
+            yield from ((file, guard) for file in found)
         for one in folders if module.has_usual_path else []:
             found = [*self._number_of(one, *module.folders, f"{module.name}.rs"),
                      *self._number_of(one, *module.folders, module.name, "mod.rs")]
             if found:
-                yield from found
+                yield from ((file, module.usual_guard) for file in found)
                 return
 
     def _number_of(self, *parts: str) -> Iterator[int]:
@@ -90,5 +95,6 @@ class Modules:
 
     def _of_use(self, use: Use) -> List[str]:
         """Returns what has to hold for a module to be there."""
-        texts = [*(self._contexts.get(use.file) or []), *(guard_texts(use.module.guard) or [])]
+        texts = [*(self._contexts.get(use.file) or []), *(guard_texts(use.module.guard) or []),
+                 *(guard_texts(use.guard) or [])]
         return list(dict.fromkeys(texts)) if sum(map(len, texts)) <= MOST_CHARACTERS else []

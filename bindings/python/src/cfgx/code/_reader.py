@@ -116,6 +116,10 @@ class Declared(NamedTuple):
     """Whether its file may also be the one that its name says."""
     guard: Optional[Guard]
     """The innermost guard of the module."""
+    path_guards: Tuple[Optional[Guard], ...]
+    """For each of the paths, the guard by a `cfg_attr` around it, if there is one."""
+    usual_guard: Optional[Guard]
+    """The guards by which no path in a `cfg_attr` is there."""
 
 
 class Reading:
@@ -143,6 +147,8 @@ class Reading:
         # The groups in which an item has a condition, by the number of the group for their scope.
         self._scopes: Dict[int, Dict[int, None]] = {}
         self._scope_of: Dict[int, int] = {}
+        # The guards of the paths in a `cfg_attr`, by the places of their values.
+        self._path_guards: Dict[int, Guard] = {}
         self._read_all()
 
     def _read_all(self) -> None:
@@ -247,6 +253,7 @@ class Reading:
             number = len(self.conditions) - 1
             if found.form is Form.CFG_ATTR:
                 inner = Guard(guard, one.end, found.text, number)
+                self._read_paths(one, inner, depth)
                 waiting += [(nested, inner, depth + 1) for nested in self._nested(one)][::-1]
             else:
                 yield Guard(self._now_at(attribute.end), end,
@@ -298,6 +305,16 @@ class Reading:
                 continue
             if plain(self.text, one.name) in ATTRIBUTES:
                 yield one
+
+    def _read_paths(self, meta: Meta, guard: Guard, depth: int) -> None:
+        """Keeps what has to hold for the paths in a `cfg_attr` that is inside of some others."""
+        items = [] if meta.inside is None else list_at(self.skim, meta.inside, meta.end)[1:]
+        for start, end in items:
+            name = following(self.text, start)
+            path = None if name is None else PATH.match(self.text, name.start, end)
+            if path is not None:
+                text = whole_of(guard, depth)
+                self._path_guards[path.start(1)] = Guard(None, guard.end, text, guard.number)
 
     # Macros.
 
@@ -397,9 +414,15 @@ class Reading:
         name = following(self.text, place + len("mod"))
         fronts = (INLINE.search(self.text[max(0, one - MOST_FRONT):one]) for one in around)
         front = ENDING.split(self.text[max(0, place - MOST_FRONT):place])[-1]
+        paths = [*PATH.finditer(self.text, place - len(front), place)]
+        guards = tuple(self._path_guards.get(one.start(1)) for one in paths)
+        usual: Optional[Guard] = None
+        for guard in guards:
+            usual = usual if guard is None else guard._replace(outer=usual, is_negated=True)
         return Declared(
             plain(self.text, name), place, tuple(one[1] for one in fronts if one is not None),
-            tuple(PATH.findall(front)), OWN_PATH.search(front) is None, self._guard_at(place),
+            tuple(one[1] for one in paths), OWN_PATH.search(front) is None,
+            self._guard_at(place), guards, usual,
         )
 
     def _guard_of(self, thing: Thing) -> Optional[Guard]:
@@ -503,6 +526,18 @@ class Branches:
             behind = following(self._text, cursor.place)
             is_mark = behind is not None and word_at(self._text, behind) == ","
             place = behind.end if behind is not None and is_mark else cursor.place
+
+
+def whole_of(guard: Optional[Guard], depth: int) -> Optional[str]:
+    """Returns what has to hold for what stands in a `cfg_attr` with a guard that is inside of some
+    others, or `None` if it is not known."""
+    texts: List[str] = []
+    while guard is not None and guard.text is not None and len(texts) <= min(depth, MOST_NESTED):
+        texts.insert(0, guard.text)
+        guard = guard.outer
+    if len(texts) <= depth:
+        return None
+    return texts[0] if depth == 0 else f"all({', '.join(texts)})"
 
 
 def presence_of(text: Optional[str], guard: Optional[Guard], depth: int) -> Optional[str]:
