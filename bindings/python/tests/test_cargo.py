@@ -234,6 +234,7 @@ class Started(Folder):
             ("#!/bin/sh\nprintf '\\377'\n", "cargo lists no packages of "),
             ("#!/bin/sh\nprintf 'a\\033[2J\\nb\\342\\200\\256' >&2; exit 101\n",
              "    a\\x1b[2J\n    b\\u202e"),
+            ("#!/bin/sh\nprintf 'a\\377b' >&2; exit 1\n", "    a\ufffdb"),
             ("#!/bin/sh\nkill -KILL $$\n", "    "),
         ]
         for script, message in rows:

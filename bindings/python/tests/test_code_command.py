@@ -128,11 +128,14 @@ class Folders(Made):
 
     def test_hostile_names(self):
         self.write(HOSTILE, '#[cfg(a = "\x1b[2J")] #[cfg(all(unix, windows))] fn f() {}')
+        with open(self.write(f"b{HOSTILE}"), "wb") as file:
+            file.write(b"\xff")
         for words in ([], ["--summary"], ["--format", "tsv"], ["--format", "json"],
                       ["--format", "sarif"]):
             _, stdout, stderr = self.command("--fail-on", "never", *words)
             self.assertNotIn("\x1b", stdout + stderr)
             self.assertIn(SHOWN, stderr)
+            self.assertIn(f"note: b{SHOWN} was passed over: it is not UTF-8\n", stderr)
 
 
 class Formats(Made):

@@ -298,6 +298,12 @@ class Formats(unittest.TestCase):
             "    b 0.1.0",
             "host linux; 4 packages: 2 yes, 1 yes or no, 1 unknown",
         ])
+        # A narrow table has room for a word at least.
+        for width in (24, 1):
+            self.assertEqual(list(_resolved_formats.table_of(made, width, False))[-7:-1], [
+                "unknown: flags that", "  RUSTFLAGS may set (see", "  --cfg and",
+                "  --no-other-cfg)", "  loom", "    b 0.1.0",
+            ])
 
     def test_a_summary(self):
         made = self.report("app > a cfg(windows)", "app > b", "b > c mac")

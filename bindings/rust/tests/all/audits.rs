@@ -1,6 +1,7 @@
 //! Audits.
 
 use super::engine;
+use super::lexing::counts_of;
 use cfgx::error::Reason;
 use cfgx::{Audit, Expression, FactError, Facts, Otherwise, audit, audit_with};
 use std::ops::Range;
@@ -338,6 +339,7 @@ fn facts_are_iterated_from_both_ends() {
         count += 1;
     }
     assert_eq!(count, 3);
+    assert_eq!(counts_of(facts.iter()), (3, 0));
 }
 
 #[test]

@@ -163,7 +163,7 @@ fn functions_are_ordered_by_name_and_number() {
 }
 
 /// Returns the number of items, and how many there are once it has ended.
-fn counts_of(mut items: impl FusedIterator) -> (usize, usize) {
+pub(crate) fn counts_of(mut items: impl FusedIterator) -> (usize, usize) {
     (items.by_ref().count(), items.count())
 }
 

@@ -143,7 +143,8 @@ fn a_program_and_its_dependency_have_one_type() {
 /// A program that names what `cfgx` has beside the items of `cfg-expr`.
 const BEYOND: &str = r#"
 use cfg_expr::targets::{Rustc, RustcCfgError, RustcError, builtin_facts};
-use cfg_expr::{Audit, Decision, Expression, FactError, Facts, Otherwise, audit, audit_with};
+use cfg_expr::{Audit, Decision, Expression, FactError, FactIter, Facts, Otherwise};
+use cfg_expr::{audit, audit_with};
 
 fn values(facts: &[Facts]) -> Result<Audit, FactError> {
     audit_with(&[Expression::parse("test").unwrap()], facts, Otherwise::False)
@@ -155,7 +156,7 @@ fn main() {
     assert_eq!(decision, Decision::Known(true));
     assert_eq!(values(&facts).unwrap().row(0), [Some(false)]);
     assert!(audit(&[], &facts).is_ok());
-    let _: fn(&Rustc, RustcError, RustcCfgError) = |_, _, _| ();
+    let _: fn(&Rustc, RustcError, RustcCfgError, FactIter<'_>) = |_, _, _, _| ();
 }
 "#;
 
