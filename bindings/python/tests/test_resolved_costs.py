@@ -62,3 +62,12 @@ class Graphs(Measured):
             for words in (["--format=json"], ["--format=tsv", "--summary"]):
                 with self.subTest(name=name, words=words):
                     self.assert_bounded("--resolved", *words, is_whole=is_whole, what=self.WHAT)
+
+    def test_packages_of_one_name(self):
+        found = graphs.metadata(*(f"app > p{number:05}" for number in range(15_000)))
+        for package in found["packages"]:
+            package["name"] = "app" if package["dependencies"] else "x"
+            for one in package["dependencies"]:
+                one["name"], one["rename"] = "x", one["name"]
+        self.write("metadata.json", json.dumps(found))
+        self.assert_bounded("--resolved", "--format=json", is_whole=True, what=self.WHAT)

@@ -5,8 +5,11 @@ import os
 from typing import Any, Dict, FrozenSet, Iterator, List, Mapping, Optional, Sequence, Tuple
 
 from . import _cargo
-from ._cargo import Dependency, Package, Workspace
+from ._cargo import Package, Workspace
 from ._errors import CargoError
+
+# The name of a package that others depend on, a kind and a condition.
+Row = Tuple[str, str, Optional[str]]
 
 
 @dataclasses.dataclass(frozen=True)
@@ -127,18 +130,30 @@ def edges_of(
 ) -> Iterator[Edge]:
     """Yields the dependencies of a package that are on, by what Cargo resolved, and by the table of
     the features of the package."""
-    activated = activated_by(node["features"], table)
-    declared: Dict[Tuple[str, str, Optional[str]], List[Dependency]] = {}
-    for one in package.dependencies:
-        key = one.renamed_from or one.name, one.kind, one.condition
-        declared.setdefault(key, []).append(one)
+    on = rows_on(package, activated_by(node["features"], table))
     for used in node["deps"]:
         target = numbers[used["pkg"]]
         for how in used["dep_kinds"]:
             kind, condition = how["kind"] or "normal", how["target"]
-            rows = declared.get((packages[target].name, kind, condition), ())
-            if is_on(rows, used["name"], activated):
+            row = packages[target].name, kind, condition
+            # Two dependencies with one row have crates of different names. If none has the name
+            # that Cargo says, each of them may be the one.
+            if on.get((row, used["name"]), on.get((row, None), True)):
                 yield Edge(target, kind, condition)
+
+
+def rows_on(
+    package: Package, activated: FrozenSet[str]
+) -> Dict[Tuple[Row, Optional[str]], bool]:
+    """Returns whether a dependency of a package is on, by its row and the name of its crate. With
+    `None` in the place of this name, returns whether one of them is on."""
+    found: Dict[Tuple[Row, Optional[str]], bool] = {}
+    for one in package.dependencies:
+        row = one.renamed_from or one.name, one.kind, one.condition
+        is_on = not one.is_optional or one.name in activated
+        for name in (one.name.replace("-", "_"), None):
+            found[row, name] = is_on or found.get((row, name), False)
+    return found
 
 
 def activated_by(
@@ -156,12 +171,3 @@ def activated_by(
             elif word.startswith("dep:"):
                 found.add(word[len("dep:"):])
     return frozenset(found)
-
-
-def is_on(rows: Sequence[Dependency], name: str, activated: FrozenSet[str]) -> bool:
-    """Whether one of the rows of a package is on that may stand for the crate with a name. Two rows
-    for one package have different names."""
-    exact = [row for row in rows if row.name.replace("-", "_") == name]
-    return not rows or any(
-        not row.is_optional or row.name in activated for row in exact or rows
-    )
