@@ -3,6 +3,7 @@
 
 mod audits;
 mod child;
+mod colliding;
 #[cfg(unix)]
 mod compiler;
 mod documentation;

@@ -137,7 +137,8 @@ class Questions:
         self._left = MOST_ALL
         self._waiting: Dict[str, None] = {}
         self._answers: Dict[str, Answer] = {}
-        self._tuples: Dict[Tuple[Optional[bool], ...], Tuple[Optional[bool], ...]] = {}
+        # By what is printed of them: unlike a tuple, a text has a hash that nobody can choose.
+        self._tuples: Dict[str, Tuple[Optional[bool], ...]] = {}
 
     def ask(self, texts: Optional[Sequence[str]]) -> Optional[str]:
         """Takes the question whether all of some conditions hold, and returns its name, or `None`
@@ -162,7 +163,8 @@ class Questions:
 
     def _answer_of(self, values: Values) -> Answer:
         """Returns an answer. Equal values are one object."""
-        return Answer(self._tuples.setdefault(values.on, values.on), tuple(values.unknown.groups))
+        on = self._tuples.setdefault(repr(values.on), values.on)
+        return Answer(on, tuple(values.unknown.groups))
 
     def answer(self, name: Optional[str]) -> Optional[Answer]:
         """Returns the answer to a question by its name."""
