@@ -4,6 +4,7 @@ pub mod CallLemmas
 pub mod CSteps
 pub mod DecideLemmas
 pub mod EndsLemmas
+pub mod PredicateSpans
 pub mod ReadLemmas
 pub mod RefusalLemmas
 pub mod SpanLemmas

@@ -2,6 +2,7 @@
 -- Source: include/cfgx.h.
 use Rattle.std.specs.Prelude.{◌≡◌, ◌+◌, ℕ, List, Option, Some, None, map, unwrap_or}
 use Rattle.cfgx_fields.specs.declared.atomic.HasAtomic.TheVariants.{Pointer}
+use Rattle.cfgx_syntax.specs.Spans.{LiesIn}
 use Rattle.cfgx_syntax.specs.Stripping.{strip, strip_offset}
 use Rattle.cfgx_parser.specs.Asked.{asked_number, kind_number}
 use Rattle.cfgx_parser.specs.Located.{key_span, value_span, whole_span}
@@ -39,6 +40,12 @@ c_predicate offset one = record {
   value_start = (moved_or_none offset (value_span one.asked one.value)).start;
   value_end = (moved_or_none offset (value_span one.asked one.value)).end;
 }
+
+-- the spans of the whole predicate, of its key and of its value lie in the text
+pub record HasSpansIn (predicate : CfgxPredicate) (text : List ℕ) : Type 0 where
+  pub whole : LiesIn text predicate.start predicate.end
+  pub key : LiesIn text predicate.key_start predicate.key_end
+  pub value : LiesIn text predicate.value_start predicate.value_end
 
 -- the predicates are those of the stripped text where they stand, with spans in the text as passed
 pub record ListsPredicates (text : List ℕ) (predicates : List CfgxPredicate) : Type 0 where

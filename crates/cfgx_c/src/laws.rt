@@ -4,6 +4,7 @@
 
 ghost use Rattle.std.specs.Prelude.{◌≡◌, ◌≤◌, ◌+◌, ◌*◌, ℕ, Bool, List, Option, Some, IsSomeAnd};
 ghost use Rattle.std.specs.Prelude.{length, map, slice_get, take};
+ghost use Rattle.std.specs.List.{All};
 ghost use Rattle.std.specs.Str.{IsUtf8};
 ghost use Rattle.cfgx_syntax.specs.Stripping.{strip};
 ghost use Rattle.cfgx_engine.specs.declared.resolve.facts.Otherwise.{Otherwise};
@@ -11,7 +12,7 @@ ghost use Rattle.cfgx_c.specs.Answers.{AnswersOfFacts};
 ghost use Rattle.cfgx_c.specs.Audit.{ValuesBy};
 ghost use Rattle.cfgx_c.specs.Faults.{HasFactFault, HasFault, HasNoUtf8, IsCondition, IsFact};
 ghost use Rattle.cfgx_c.specs.Faults.{HasSpanIn, HasSpanInItem, Tells};
-ghost use Rattle.cfgx_c.specs.Predicates.{ListsPredicates};
+ghost use Rattle.cfgx_c.specs.Predicates.{HasSpansIn, ListsPredicates};
 ghost use Rattle.cfgx_c.specs.Status.{faulty, faulty_fact, not_utf8};
 ghost use Rattle.cfgx_c.specs.Steps.{Applies, AreCMiscounted, Compiles, HaveNoCValue};
 ghost use Rattle.cfgx_c.specs.Tokens.{IsNoUtf8, ListsTokens};
@@ -38,6 +39,14 @@ pub fn apply_after_compile_is_value()
 pub fn predicates_are_listed_once()
     ensures { (text : List ℕ) (list others : List CfgxPredicate) → ListsPredicates text list
         → ListsPredicates text others → list ≡ others }
+{}
+
+/// The spans of each predicate lie in the text as it was passed: that of the whole, and those of
+/// its key and its value, which are empty if there is none. Each start is at most the end, and this
+/// at most the length.
+pub fn predicates_lie_in_their_text()
+    ensures { (text : List ℕ) (list : List CfgxPredicate) → ListsPredicates text list
+        → All (λ predicate. HasSpansIn predicate text) list }
 {}
 
 /// Steps have at most one value over the same answers. Steps that have one are never said to have

@@ -25,7 +25,7 @@ use Rattle.cfgx_engine.specs.Facts.{unnamed_answer}
 use Rattle.cfgx_engine.specs.declared.resolve.facts.Otherwise.{Otherwise}
 use Rattle.cfgx_engine.specs.declared.resolve.facts.Otherwise.TheVariants as otherwise
 use Rattle.cfgx_engine.specs.{Input.input_limit, Request.Request, Request.request_of}
-use Rattle.cfgx_engine.specs.Output.{HasValue, Output, ValueBy, answer_on, result_output}
+use Rattle.cfgx_engine.specs.Output.{HasValueByFlags, Output, ValueBy, answer_on, result_output}
 use Rattle.cfgx_engine.specs.Output.{tree_output, unknown_triple, usage, value_by}
 use Rattle.cfgx_engine.specs.Prints.{Picks, Prints, input_not_utf8, too_long}
 use Rattle.cfgx_engine.specs.Sections.{section_text}
@@ -110,8 +110,9 @@ ValueBy-single flags (Ok (tree ∷ trees)) one other (answers, each, is) (others
     is ∙ ap (λ given. Ok (tree_fold three_valued tree given)) alike ∙ sym same
 ValueBy-single flags (Err fault) one other this that = this ∙ sym that
 
-HasValue-single : (text : List ℕ) (flags : List (List ℕ)) → IsSingle (HasValue text flags)
-HasValue-single text flags one other this that =
+HasValueByFlags-single : (text : List ℕ) (flags : List (List ℕ))
+    → IsSingle (HasValueByFlags text flags)
+HasValueByFlags-single text flags one other this that =
     grind (arith, GivesAll-single, ParsesAs-single, ValueBy-single)
 
 -- the output of lines
@@ -144,7 +145,7 @@ pub Prints-decided : (request : Request) (input : List ℕ) → IsDecided (Print
 Prints-decided (Request.parse text) input =
     decided-made tree_output (ParsesAs-single text) (λ read. grind arith)
 Prints-decided (Request.eval text flags) input =
-    decided-made result_output (HasValue-single text flags) (λ value. grind arith)
+    decided-made result_output (HasValueByFlags-single text flags) (λ value. grind arith)
 Prints-decided (Request.target triple text) input =
     by_row IsDecided triple (decided unknown_triple (omega arith)) (λ row. decided-made
     result_output (single-made (value_by (answer_on row)) (ParsesAs-single text))
@@ -255,16 +256,17 @@ module _ (Q : List ℕ → Type 0) (tested : (text : List ℕ) → is_utf8 text 
       let rest = flags-are R each flags all.1 in
       let marked = cut flag 0 all.0 in grind (arith, strip-is, each)
 
-  HasValue-some : (text : List ℕ) (flags : List (List ℕ)) → Q text → AllByRecursion Q flags
-      → HasSome (HasValue text flags)
-  HasValue-some text flags is all =
+  HasValueByFlags-some : (text : List ℕ) (flags : List (List ℕ)) → Q text → AllByRecursion Q flags
+      → HasSome (HasValueByFlags text flags)
+  HasValueByFlags-some text flags is all =
       let texts = flags-are (λ text. HasSome (ParsesAs text)) ParsesAs-some flags all in
       valued texts.1 texts.2
       (GivesAll-some ParsesAs (text ∷ map fact_text flags) (ParsesAs-some text is, texts.0))
     where
       valued : AllByRecursion Q (texts_of flags).true_texts
           → AllByRecursion Q (texts_of flags).unknown_texts
-          → HasSome (GivesAll ParsesAs (text ∷ map fact_text flags)) → HasSome (HasValue text flags)
+          → HasSome (GivesAll ParsesAs (text ∷ map fact_text flags))
+          → HasSome (HasValueByFlags text flags)
       valued known unknown (Err fault, gives) = (Err fault, (Err fault, gives, refl))
       valued known unknown (Ok [], gives) = absurd (grind arith)
       valued known unknown (Ok (tree ∷ trees), gives) =
@@ -341,7 +343,7 @@ module _ (Q : List ℕ → Type 0) (tested : (text : List ℕ) → is_utf8 text 
       → HasSome (Prints (request_of words) input)
   Prints-some words input = request-is (λ request. HasSome (Prints request input))
       (λ text is. some_made tree_output (ParsesAs-some text is))
-      (λ text flags is all. some_made result_output (HasValue-some text flags is all))
+      (λ text flags is all. some_made result_output (HasValueByFlags-some text flags is all))
       (λ triple text is. by_row HasSome triple (unknown_triple, refl) (λ row. some_made
       result_output (some_made (value_by (answer_on row)) (ParsesAs-some text is))))
       (λ triple. by_row HasSome triple (unknown_triple, refl)

@@ -77,8 +77,8 @@ ValueBy flags (Err fault) value = value ≡ Err fault
 
 -- the value of the text over the answers of the flags, or the first fault. The text is read before
 -- the flags
-abbrev pub HasValue : List ℕ → List (List ℕ) → Result (Option Bool) TextFault → Type 0
-HasValue text flags value = (reading : Result (List (Tree Question)) TextFault)
+abbrev pub HasValueByFlags : List ℕ → List (List ℕ) → Result (Option Bool) TextFault → Type 0
+HasValueByFlags text flags value = (reading : Result (List (Tree Question)) TextFault)
     × GivesAll ParsesAs (text ∷ map fact_text flags) reading × ValueBy flags reading value
 
 -- the answer of a target to a question. A question that is not on the target is unknown

@@ -12,7 +12,7 @@ use Rattle.cfgx_syntax.specs.Error.{TextFault}
 use Rattle.cfgx_grammar.specs.Question.{Question}
 use Rattle.cfgx_grammar.specs.Tree.{Tree}
 use Rattle.cfgx_engine.specs.Input.{input_limit}
-use Rattle.cfgx_engine.specs.Output.{HasValue, HasValueBy, Output, answer_on, result_output}
+use Rattle.cfgx_engine.specs.Output.{HasValueByFlags, HasValueBy, Output, answer_on, result_output}
 use Rattle.cfgx_engine.specs.Output.{text_line, faulty_output, tree_output, unknown_triple, usage}
 use Rattle.cfgx_engine.specs.Readings.{ParsesAs}
 use Rattle.cfgx_engine.specs.Request.{Request}
@@ -44,7 +44,7 @@ Prints (Request.parse text) input output =
     (reading : Result (Tree Question) TextFault) × ParsesAs text reading
     × (output ≡ tree_output reading)
 Prints (Request.eval text flags) input output = (value : Result (Option Bool) TextFault)
-    × HasValue text flags value × (output ≡ result_output value)
+    × HasValueByFlags text flags value × (output ≡ result_output value)
 Prints (Request.target triple text) input output =
     MatchOption (row_with {A = Global} triple builtin_rows) (output ≡ unknown_triple)
     (λ target. (value : Result (Option Bool) TextFault) × HasValueBy (answer_on target) text value

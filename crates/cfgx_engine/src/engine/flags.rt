@@ -2,7 +2,7 @@
 //! is false.
 
 ghost use Rattle.cfgx_engine.specs.internal.Shows.{FitsResult};
-ghost use Rattle.cfgx_engine.specs.Output.{HasValue};
+ghost use Rattle.cfgx_engine.specs.Output.{HasValueByFlags};
 ghost use Rattle.cfgx_engine.specs.Request.{texts};
 
 use crate::resolve::{Facts, Otherwise};
@@ -17,7 +17,7 @@ pub(super) fn eval_with_flags<A: SmallAllocator>(
     text: &str,
     flags: &[&str],
 ) -> Result<Option<bool>, Failure<A>>
-    ensures { FitsResult (HasValue text.now (texts flags.now)) result }
+    ensures { FitsResult (HasValueByFlags text.now (texts flags.now)) result }
 {
     let mut reader = ConditionReader::new(alloc);
     let condition = reader.read(text)?;

@@ -9,7 +9,7 @@ use Rattle.cfgx_engine.specs.declared.resolve.facts.FactsError.{FactsError}
 use Rattle.cfgx_engine.specs.declared.resolve.facts.FactsError.TheVariants as facts_error
 use Rattle.cfgx_engine.specs.internal.{ReadsFacts.failure_in, Shows.Fails}
 use Rattle.cfgx_engine.specs.Facts.{fact_text}
-use Rattle.cfgx_engine.specs.{Output.HasValue, Readings.GivesAll, Readings.ParsesAs}
+use Rattle.cfgx_engine.specs.{Output.HasValueByFlags, Readings.GivesAll, Readings.ParsesAs}
 use Rattle.cfgx_engine.specs.Request.{texts}
 use Rattle.cfgx_engine.proofs.ReadingLemmas.{first_fails, later_fails}
 use Rattle.cfgx_engine.proofs.FactLemmas.{GivesAll-faulty, IsAnswer-alike, trees_of}
@@ -27,7 +27,7 @@ Fails-flags flags (facts_error.Memory error) first = tt
 pub returns-in_err-condition : goal.returns-in_err-condition
 returns-in_err-condition g c =
     let p = err_from_is_err_and c.from_residual.result c.from_residual.ensures.1 in
-    let Valued = HasValue c.args.text.now (texts c.args.flags.now) in
+    let Valued = HasValueByFlags c.args.text.now (texts c.args.flags.now) in
     rw (p.1, p.2) (IfSome_then _ {Q = λ fault. Valued (Err fault)}
     (Fails-parse {A = g.row.A.Denot} c.args.text.now _ c.in_err-condition.ensures.answers)
     (λ fault reads. (Err fault, first_fails ParsesAs _ _ fault reads, refl)))
@@ -38,7 +38,7 @@ returns-in_err-facts g c =
     c.from_residual-in_err-facts.ensures.1 in
     let one = c.in_ok-condition.ensures.answers.2 in
     let flags = texts c.args.flags.now in
-    let Valued = HasValue c.args.text.now flags in
+    let Valued = HasValueByFlags c.args.text.now flags in
     rw (p.1, p.2) (IfSome_then _ {Q = λ fault. Valued (Err fault)}
     (Fails-flags {A = g.row.A.Denot} flags c.in_err-facts.field-0.0 c.in_err-facts.ensures)
     (λ fault gives. (Err fault, later_fails ParsesAs _ one.tree _ fault one.reads gives, refl)))
