@@ -21,7 +21,7 @@ unreachable-requires c =
     c.next.ensures.steps in
     elim c.in_default.branch [
       | in_default-via-in-Some+in_default w ↦
-        absurd (let is = found.1 in grind (arith, common_steps))
+          absurd (let is = found.1 in grind (arith, common_steps))
       | in_default-via-in_default w ↦ absurd (not_both w.in_default.is found.1)
     ]
 
