@@ -83,7 +83,8 @@ def module_of(target: str, folder: str) -> Module:
     if " cpu=" in verdict:
         raise ToolError(f"the code is not for each processor of the target: {verdict}")
     if target == X86 and not is_same(archive, BUILT):
-        raise ToolError("crates/cfgx_c/out has another archive: run `rt lib --cpu x86-64` there")
+        raise ToolError("crates/cfgx_c/out has another archive: run `rt lib --cpu x86-64` in"
+                        " crates/cfgx_c")
     text = os.path.join(folder, "module.ll")
     output_of(tool("clang"), f"--target={target}", "-S", "-emit-llvm", "-Xclang",
               "-disable-llvm-passes", "-x", "ir", os.path.join(folder, "module"), "-o", text)
