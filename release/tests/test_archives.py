@@ -3,6 +3,7 @@ import base64
 import email
 import hashlib
 import re
+import sys
 import tarfile
 import time
 import unittest
@@ -29,6 +30,10 @@ METADATA_FIELDS = (
     ("Requires-Python", [">=3.8"]),
     ("Author", ["the Puksiev maintainers"]),
     ("Keywords", ["cargo,cfg,dependencies,platform,target"]),
+    # The first version in which a licence is an expression.
+    ("Metadata-Version", ["2.4"]),
+    ("Summary", repository.project("description")),
+    ("Description-Content-Type", ["text/markdown"]),
 )
 
 # The platform of this machine.
@@ -200,6 +205,7 @@ class Wheel(unittest.TestCase):
                              one.filename)
             # A zip file counts in pairs of seconds.
             self.assertEqual(one.date_time, (*seconds[:5], seconds[5] // 2 * 2))
+            self.assertEqual(one.compress_type, zipfile.ZIP_DEFLATED, one.filename)
 
     def test_record(self):
         path = f"{INFORMATION}/RECORD"
@@ -210,7 +216,8 @@ class Wheel(unittest.TestCase):
             data = self.archive.read(name)
             kind, digest = told.split("=")
             self.assertEqual((kind, len(data)), ("sha256", int(size)))
-            self.assertNotIn("=", digest)
+            # Without padding, and with the signs of a URL.
+            self.assertRegex(digest, r"^[A-Za-z0-9_-]{43}$")
             padded = base64.urlsafe_b64decode(digest + "=")
             self.assertEqual(padded.hex(), hashlib.sha256(data).hexdigest(), name)
 
@@ -236,13 +243,19 @@ class Wheel(unittest.TestCase):
     def test_completion(self):
         for shell, path in COMPLETING.items():
             text = self.archive.read(path).decode()
+            self.assertEqual(text, repository.output_of(
+                sys.executable, "-B", "manual/make", "completion", shell), shell)
             self.assertIn("fail-on", text, shell)
             self.assertIn("x86_64-pc-windows-gnullvm", text, shell)
         self.assertTrue(self.archive.read(COMPLETING["zsh"]).startswith(b"#compdef cfgx-deps\n"))
 
     def test_the_manual_page_is_that_of_the_command(self):
-        page = re.sub(r"\\(?:f[BIP]|%)?", "", self.archive.read(MANUAL).decode())
-        self.assertIn(f'.TH "CFGX-DEPS" 1 "" "cfgx {VERSION}" "User Commands"\n', page)
+        pages = {path: re.sub(r"\\(?:f[BIP]|%)?", "", self.archive.read(path).decode())
+                 for path in (MANUAL, CODE_MANUAL)}
+        for path, name in ((MANUAL, "CFGX-DEPS"), (CODE_MANUAL, "CFGX-CODE")):
+            head = f'.TH "{name}" 1 "" "cfgx {VERSION}" "User Commands"\n'
+            self.assertIn(head, pages[path])
+        page = pages[MANUAL]
         tags = re.findall(r"^\.TP\n(.*)$", page, re.M)
         words = {word for tag in tags for word in re.split("[, ]+", tag)}
         self.assertLessEqual({"MANIFEST", "--target", "TRIPLE", "--fail-on", "--help"}, words)

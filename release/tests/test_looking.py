@@ -35,6 +35,9 @@ CHANGES = (
           ("x86_64-apple-darwin", "libcfgx.dylib"), ("aarch64-apple-darwin", "libcfgx.a"),
           ("aarch64-apple-darwin", "libcfgx.dylib"),
       )),
+    # The flags of sections that are in no memory: that of the stack would ask for code.
+    ("aarch64-unknown-linux-gnu", "libcfgx.a", struct.pack("<IQQ", 1, 0, 0),
+     struct.pack("<IQQ", 1, 4, 0), "the flags of its stack"),
     ("aarch64-unknown-linux-gnu", SONAME, SONAME.encode(), b"libcfgx.so.0.0", "its name"),
     ("aarch64-unknown-linux-gnu", SONAME, b"libc.so.6", b"libm.so.6", "what it needs"),
     # The flags of the stack, and those by which the loader binds at once.
@@ -51,6 +54,9 @@ CHANGES = (
      "its name, and what it needs"),
     ("x86_64-apple-darwin", "libcfgx.dylib", b"libSystem.B", b"libSystem.C",
      "its name, and what it needs"),
+    # What the segment with code allows.
+    ("x86_64-apple-darwin", "libcfgx.dylib", struct.pack("<II", 5, 5), struct.pack("<II", 7, 7),
+     "segments with code that can be written"),
     # The command for a signature becomes another one.
     ("aarch64-apple-darwin", "libcfgx.dylib", struct.pack("<II", 0x1D, 16),
      struct.pack("<II", 0x2B, 16), "whether it is signed"),

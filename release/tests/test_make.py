@@ -9,11 +9,13 @@ import sys
 import tarfile
 import tempfile
 import unittest
+import unittest.mock
 import zipfile
 
 from . import RUST, SONAME, VERSION, WHEEL, WHEELS
 
 import repository
+import stamp
 from targets import FAMILIES
 
 MAKE = os.path.join(repository.ROOT, "release", "make")
@@ -21,7 +23,8 @@ TOOLS = ("git", "rt", "cc", "ld")
 # What `crates/cfgx_c/stamp` needs beside these.
 OTHERS = ("bash", "cat", "dirname", "env", "find", "sed", "sha256sum", "sort", "xargs")
 STAMP = "out/cfgx/share/cfgx/stamp"
-STAMPS = {"out/cfgx": STAMP, "out/platforms": "out/platforms/stamp"}
+PLATFORMS_STAMP = "out/platforms/stamp"
+STAMPS = {"out/cfgx": STAMP, "out/platforms": PLATFORMS_STAMP}
 
 # A tool that fails, and what is said of it.
 FAILING = (
@@ -76,6 +79,20 @@ class Tools(unittest.TestCase):
         for tool, said in FAILING:
             self.write_tools({tool: "exit 3"})
             self.check_refusal(said)
+
+
+class Makers(unittest.TestCase):
+    """The sum of what makes the libraries for all platforms."""
+
+    def test_a_system_lists_a_folder_in_any_order(self):
+        names, found = os.listdir, set()
+        for is_reversed in (False, True):
+            def listed(path, is_reversed=is_reversed):
+                return sorted(names(path), reverse=is_reversed)
+
+            with unittest.mock.patch("os.listdir", listed):
+                found.add(stamp.makers())
+        self.assertEqual(len(found), 1)
 
 
 class Copy(unittest.TestCase):
@@ -203,6 +220,10 @@ class Runs(Copy):
                 self.write(changed, "\n", "a")
             self.made()
             self.assertEqual(self.manifest()[2], f"commit    {name}{wanted}")
+        # A change counts too where the index has it already.
+        self.run_words("git", "add", "README.md", cwd=self.top)
+        self.made()
+        self.assertEqual(self.manifest()[2], f"commit    {name}, and changes after it")
 
     def test_the_time_is_that_of_the_commit(self):
         """Not of its author, and in UTC."""
@@ -291,6 +312,19 @@ class Stamps(Copy):
         self.change(STAMP, r"^sources .*$", "sources unknown")
         self.change(STAMP, r"^kit .*$", "")
         self.check_refusal(f"out/cfgx was not built of the sources that stand here: {self.again}")
+
+    def test_libraries_of_other_sources(self):
+        """Or by another kit, or changed since. They have a stamp of their own."""
+        again, path = "run release/platforms", "out/platforms/x86_64-apple-darwin/libcfgx.dylib"
+        text = self.read(PLATFORMS_STAMP)
+        for line, said in (("sources", "not built of the sources that stand here"),
+                           ("compiler", "built by another kit")):
+            with self.subTest(line=line):
+                self.change(PLATFORMS_STAMP, rf"^{line} .*$", f"{line} unknown")
+                self.check_refusal(f"out/platforms was {said}: {again}")
+                self.write(PLATFORMS_STAMP, text)
+        self.write(path, "a stub")
+        self.check_refusal(f"{path} is not as it was installed: {again}")
 
     def test_other_tests_and_pages(self):
         for path in ("crates/cfgx_c/tests/check.c", "crates/cfgx_vectors/stdout", "docs/C.md"):

@@ -14,6 +14,7 @@ from . import (
 )
 
 import repository
+import targets
 
 # The files that have the engine inside.
 ENGINES = [
@@ -123,6 +124,9 @@ others    of the libraries for other platforms, beside the clang, lld and llvm-a
         found = re.findall(r"^(\S+) +(\S+-linux-gnu) +(\S.*?)  +(\d+) bytes$", head, re.M)
         self.assertEqual([row[:3] for row in found], PLATFORMS)
         self.assertLess(max(int(row[3]) for row in found), 2 * PAGE)
+        stamp = repository.read_text("out/platforms/stamp")
+        self.assertEqual([(row[0], row[3]) for row in found],
+                         re.findall(r"^frame (\S+) (\d+) ", stamp, re.M))
         verdicts = re.findall(r"^(\S+-linux-gnu)\n  logic=proved .*\btarget=(\S+)", head, re.M)
         self.assertEqual(verdicts, [(target, target) for target in (X86, ARM)])
 
@@ -134,8 +138,18 @@ others    of the libraries for other platforms, beside the clang, lld and llvm-a
         number, = re.findall(r'^version = "(.*)"$', over, re.M)
         python, = re.findall(r'^requires-python = ">=(.*)"$',
                              repository.read_text("bindings/python/pyproject.toml"), re.M)
+        node, = re.findall(r'"node": ">=(.*)"', repository.read_text("bindings/js/package.json"))
+        macs = [(family, platform.target.partition("macosx")[2])
+                for family, (platform, *_) in targets.FAMILIES.items() if "mac" in family]
+        self.assertEqual(len(macs), 2)
+        glibc = "glibc 2.34 or later, and the shared object glibc 2.17 or later."
         for name, said in (
-            (f"{C}.tar.gz", "glibc 2.34 or later, and the shared object glibc 2.17 or later."),
+            (f"{C}.tar.gz", glibc), (f"{c_for('aarch64-linux')}.tar.gz", glibc),
+            (f"{c_for('x86_64-windows')}.tar.gz", "It holds parts of MinGW-w64."),
+            (f"{c_for('x86_64-windows')}.tar.gz", "cfgx.dll needs msvcrt.dll,"),
+            *((f"{c_for(family)}.tar.gz", f"The libraries are for macOS {least} or later.")
+              for family, least in macs),
+            (PACKAGE, f"for Node {node} or later and for browsers,"),
             *((wheel_for(systems), f"The package for Python {python} or later,")
               for systems, *_ in WHEELS),
             (f"{RUST}.tar.gz", f"package `cfg-expr` {number} over it, for Rust {rust} or later."),

@@ -3,7 +3,7 @@ import posixpath
 import re
 import unittest
 
-from . import C, DATA, INFORMATION, RUST, files_of, files_of_wheel
+from . import C, DATA, INFORMATION, PACKAGE, RUST, files_in, files_of, files_of_wheel
 
 import repository
 
@@ -21,6 +21,8 @@ ARCHIVES = (
     (files_of(C), C, "README.md", {}),
     (files_of(RUST), RUST, "README.md", MOVED),
     (files_of_wheel(), DOCUMENTS, "bindings/python/README.md", {}),
+    (files_in(PACKAGE), "package", "README.md",
+     {"bindings/js/README.md": "README.md", "README.md": "docs/CFGX.md"}),
 )
 
 
@@ -85,9 +87,10 @@ class Pages(unittest.TestCase):
 
     def test_the_first_page_is_that_of_the_package(self):
         self.assertTrue(files_of(C)[f"{C}/README.md"].startswith(b"# cfgx and cfg_expr\n"))
-        for page, place in MOVED.items():
-            head = repository.read(page).split(b"\n")[0]
-            self.assertEqual(files_of(RUST)[f"{RUST}/{place}"].split(b"\n")[0], head)
+        for files, top, _, moved in ARCHIVES:
+            for page, place in moved.items():
+                head = repository.read(page).split(b"\n")[0]
+                self.assertEqual(files[f"{top}/{place}"].split(b"\n")[0], head)
 
     def test_metadata(self):
         """No link leads out of it, and each path that it names is in the wheel."""
