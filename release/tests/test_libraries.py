@@ -65,8 +65,8 @@ class Libraries(User):
             self.assertLessEqual(max(map(parts, versions)), parts(most), path)
             needed = re.findall(r"NEEDED.*\[(.*)\]", self.succeed("readelf", "-dW", path))
             self.assertLessEqual(set(needed), NEEDED)
-        page = repository.read_text("docs/RELEASE.md")
-        self.assertIn(f"glibc {GLIBC} or later, or musl, and the program glibc {PROGRAM_GLIBC}.", page)
+        said = f"glibc {GLIBC} or later, or musl, and the program glibc {PROGRAM_GLIBC}."
+        self.assertIn(said, repository.read_text("docs/RELEASE.md"))
 
     def test_how_they_are_loaded(self):
         self.need("how the libraries of a release are loaded", "readelf")
