@@ -44,8 +44,8 @@ class Help(NamedTuple):
 
 
 def text(command: Command) -> str:
-    """Returns what `--help` of a command prints, with each argument in a line. The import of the package needs
-    the library, so empty modules stand for the packages."""
+    """Returns what `--help` of a command prints, with each argument in a line. The import of the
+    package needs the library, so empty modules stand for the packages."""
     sys.dont_write_bytecode = True
     for name in ("cfgx", "cfgx.manifest", "cfgx.code"):
         module = types.ModuleType(name)

@@ -14,8 +14,8 @@ const FLAGS = [
 // How long something may take to be shown, in milliseconds.
 const PATIENCE = 20_000;
 // The codes of keys that are no letters.
-const CODES = { Enter: 13, Tab: 9, Escape: 27, Home: 36, End: 35, ArrowLeft: 37, ArrowUp: 38, ArrowRight: 39,
-                ArrowDown: 40, Backspace: 8, Delete: 46, " ": 32 };
+const CODES = { Enter: 13, Tab: 9, Escape: 27, Home: 36, End: 35, ArrowLeft: 37, ArrowUp: 38,
+                ArrowRight: 39, ArrowDown: 40, Backspace: 8, Delete: 46, " ": 32 };
 const CONTROL = 2;
 const SHIFT = 8;
 

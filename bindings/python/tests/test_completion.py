@@ -11,7 +11,8 @@ from cfgx import _command, targets
 
 # What stands behind the command, and what a shell offers for the last word.
 ROWS = [
-    ("--fo", ["--format"]), ("--no", ["--no-default-features", "--no-other-cfg"]), ("--rust", ["--rustc", "--rustflags"]),
+    ("--fo", ["--format"]), ("--no", ["--no-default-features", "--no-other-cfg"]),
+    ("--rust", ["--rustc", "--rustflags"]),
     ("--format t", ["table", "tsv"]), ("--format json,t", []), ("--cfg n", []),
     ("--kind n", ["normal"]), ("--kind normal,d", ["normal,dev"]), ("--kind x", []),
     ("--only conditional,differing,u", ["conditional,differing,unknown"]),

@@ -149,15 +149,16 @@ class Sarif(Made):
     @needs("cargo", untested="the subcommand of cargo")
     def test_a_subcommand_of_cargo(self):
         script = os.path.abspath(os.path.join(PACKAGE, "cfgx_deps.py"))
-        text = f"#!{sys.executable}\nimport sys\nsys.path.insert(0, {os.path.dirname(script)!r})\n" \
+        text = f"#!{sys.executable}\nimport sys\n" \
+               f"sys.path.insert(0, {os.path.dirname(script)!r})\n" \
                "import cfgx_deps\nsys.exit(cfgx_deps.cargo_main())\n"
         self.write_program("bin/cargo-cfgx-deps", text)
         path = os.path.join(self.folder, "bin") + os.pathsep + os.environ["PATH"]
 
         def run(*words):
             done = subprocess.run(
-                words, cwd=self.audited, stdout=subprocess.PIPE, stderr=subprocess.PIPE, check=False,
-                env={**os.environ, "PATH": path, "CFGX_LIBRARY": _library.path_of()},
+                words, cwd=self.audited, stdout=subprocess.PIPE, stderr=subprocess.PIPE,
+                check=False, env={**os.environ, "PATH": path, "CFGX_LIBRARY": _library.path_of()},
             )
             return done.returncode, done.stdout.decode(), done.stderr.decode()
 
@@ -167,5 +168,6 @@ class Sarif(Made):
             with self.subTest(words=words):
                 self.assertEqual(run("cargo", "cfgx-deps", *words), run(*command, *words))
                 self.assertEqual(run("cargo-cfgx-deps", *words), run(*command, *words))
-        self.assertTrue(run("cargo", "cfgx-deps", "--help")[1].startswith("usage: cargo cfgx-deps "))
-        self.assertTrue(run("cargo", "cfgx-deps", "-x")[2].startswith("usage: cargo cfgx-deps "))
+        usage = "usage: cargo cfgx-deps "
+        self.assertTrue(run("cargo", "cfgx-deps", "--help")[1].startswith(usage))
+        self.assertTrue(run("cargo", "cfgx-deps", "-x")[2].startswith(usage))

@@ -96,7 +96,8 @@ class Chosen(Made):
 
     def test_wrong_words(self):
         rows = [
-            (["--only", "none"], "--only takes conditional and differing and unknown, and not none"),
+            (["--only", "none"],
+             "--only takes conditional and differing and unknown, and not none"),
             (["--only", "unknown,"], "and not "), (["--only="], "and not "),
             (["--fail-on", "never,differing"], "--fail-on takes unknown and never, and not diff"),
         ]
@@ -313,7 +314,8 @@ class Known(Made):
             self.assertIn(wanted, message)
         status, output, message = self.command("--known", "none.toml")
         self.assertEqual((status, output), (3, ""))
-        self.assertEqual(message, "cfgx-deps: none.toml cannot be read: No such file or directory\n")
+        self.assertEqual(message,
+                         "cfgx-deps: none.toml cannot be read: No such file or directory\n")
 
     def test_what_is_not_tried_out(self):
         # A status says the first of what happened: something is found, or something failed.

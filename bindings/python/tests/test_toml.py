@@ -51,7 +51,8 @@ LONG = {
     "inline tables": "a=" + "{a=" * (LARGE // 3), "a text": f'a="{"x" * LARGE}"',
     "escapes": 'a="' + '\\"' * (LARGE // 2) + '"', "quotes": 'a="""' + '""x' * (LARGE // 3) + '"""',
     "an escaped key": '"' + "\\u0041" * (LARGE // 6) + '"=1', "headers": "[a]\n" * (LARGE // 4),
-    "a text that does not end": 'a="""' + '""x' * (LARGE // 3), "commas": "a=[" + "1," * (LARGE // 2),
+    "a text that does not end": 'a="""' + '""x' * (LARGE // 3),
+    "commas": "a=[" + "1," * (LARGE // 2),
 }
 
 

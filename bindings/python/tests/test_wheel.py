@@ -54,7 +54,8 @@ class Wheels(Folder):
                 self.assertEqual(wheel.read(f"cfgx/{_library.NAME}"), file.read())
         self.assertIn("Root-Is-Purelib: false\n", tags)
         self.assertIn(f"Tag: py3-none-{system}\n", tags)
-        self.assertEqual({name for name in map(os.path.basename, names) if name in LICENSES}, LICENSES)
+        found = {os.path.basename(name) for name in names}
+        self.assertLessEqual(LICENSES, found)
         self.assertIn("\nAuthor: the Puksiev maintainers\n", metadata)
         self.assertGreater(len(re.findall("^Classifier: ", metadata, re.M)), 5)
         self.assertIn("cfgx-deps = cfgx_deps:main\n", scripts)

@@ -369,9 +369,9 @@ impl Error for FactError {}
 /// Returns the value of each condition on each target. A predicate that no fact names is false if
 /// it tests the target, and unknown otherwise.
 ///
-/// No condition is parsed again: each different predicate is asked once about 64 targets. The memory
-/// is in proportion to the texts of the conditions, to those of the facts of 64 targets, and to the
-/// number of values.
+/// No condition is parsed again: each different predicate is asked once about 64 targets. The
+/// memory is in proportion to the texts of the conditions, to those of the facts of 64 targets, and
+/// to the number of values.
 ///
 /// # Errors
 ///

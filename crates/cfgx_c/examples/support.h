@@ -51,8 +51,8 @@ static inline char *utf8_of(const wchar_t *wide)
 }
 #endif
 
-/* Returns the words of `main` in UTF-8, and lets the standard streams pass on bytes as they are. Both
- * are so but on Windows, where the words stay to the end of the program. */
+/* Returns the words of `main` in UTF-8, and lets the standard streams pass on bytes as they are.
+ * Both are so but on Windows, where the words stay to the end of the program. */
 static inline char **utf8_words(char **words)
 {
 #ifdef _WIN32

@@ -1,5 +1,5 @@
-//! Tests of the crate against recorded answers and against the calls of the engine. Those that build
-//! programs in folders, or run scripts, are for Unix.
+//! Tests of the crate against recorded answers and against the calls of the engine. Those that
+//! build programs in folders, or run scripts, are for Unix.
 
 mod audits;
 mod child;

@@ -38,7 +38,8 @@ impl Question {
         })
     }
 
-    /// Returns whether it asks for a value of a built-in target, of which a triple may say something.
+    /// Returns whether it asks for a value of a built-in target, of which a triple may say
+    /// something.
     fn is_said(&self) -> bool {
         let is_unsaid = |key: &&str| self.text.starts_with(*key);
         self.is_of_target && !UNSAID.iter().any(is_unsaid)
