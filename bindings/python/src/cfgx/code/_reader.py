@@ -251,13 +251,14 @@ class Reading:
             one, guard, depth = waiting.pop()
             found = self._read_one(one, guard, attribute)
             number = len(self.conditions) - 1
+            texts = nested_texts(found.text, guard, depth)
             if found.form is Form.CFG_ATTR:
                 inner = Guard(guard, one.end, found.text, number)
-                self._read_paths(one, inner, depth)
+                self._read_paths(one, Guard(None, one.end, whole_of(texts), number))
                 waiting += [(nested, inner, depth + 1) for nested in self._nested(one)][::-1]
             else:
                 yield Guard(self._now_at(attribute.end), end,
-                            presence_of(found.text, guard, depth), number)
+                            presence_of(texts), number)
 
     def _read_one(self, meta: Meta, guard: Optional[Guard], attribute: Attribute) -> Found:
         """Adds the condition of `cfg` or `cfg_attr`."""
@@ -306,15 +307,14 @@ class Reading:
             if plain(self.text, one.name) in ATTRIBUTES:
                 yield one
 
-    def _read_paths(self, meta: Meta, guard: Guard, depth: int) -> None:
-        """Keeps what has to hold for the paths in a `cfg_attr` that is inside of some others."""
+    def _read_paths(self, meta: Meta, guard: Guard) -> None:
+        """Keeps what has to hold for the paths in a `cfg_attr`."""
         items = [] if meta.inside is None else list_at(self.skim, meta.inside, meta.end)[1:]
         for start, end in items:
             name = following(self.text, start)
             path = None if name is None else PATH.match(self.text, name.start, end)
             if path is not None:
-                text = whole_of(guard, depth)
-                self._path_guards[path.start(1)] = Guard(None, guard.end, text, guard.number)
+                self._path_guards[path.start(1)] = guard
 
     # Macros.
 
@@ -528,26 +528,31 @@ class Branches:
             place = behind.end if behind is not None and is_mark else cursor.place
 
 
-def whole_of(guard: Optional[Guard], depth: int) -> Optional[str]:
-    """Returns what has to hold for what stands in a `cfg_attr` with a guard that is inside of some
-    others, or `None` if it is not known."""
-    texts: List[str] = []
-    while guard is not None and guard.text is not None and len(texts) <= min(depth, MOST_NESTED):
-        texts.insert(0, guard.text)
-        guard = guard.outer
-    if len(texts) <= depth:
-        return None
-    return texts[0] if depth == 0 else f"all({', '.join(texts)})"
-
-
-def presence_of(text: Optional[str], guard: Optional[Guard], depth: int) -> Optional[str]:
-    """Returns what has to hold for what a `cfg` stands on that is inside of some `cfg_attr`, or
-    `None` if it is not known."""
+def nested_texts(
+    text: Optional[str], guard: Optional[Guard], depth: int
+) -> Optional[List[str]]:
+    """Returns the conditions of the `cfg_attr` around an attribute, from the outside in, and then
+    its own. The innermost of them has a guard. Returns `None` if one of them is not known."""
     texts = [] if text is None else [text]
     for _ in range(min(depth, MOST_NESTED)):
         if guard is not None and guard.text is not None:
-            texts.insert(0, f"not({guard.text})")
+            texts.insert(0, guard.text)
         guard = None if guard is None else guard.outer
-    if len(texts) <= depth:
+    return texts if len(texts) > depth else None
+
+
+def whole_of(texts: Optional[List[str]]) -> Optional[str]:
+    """Returns what has to hold for what stands in the last of nested `cfg_attr`, if it is known."""
+    if texts is None:
         return None
-    return texts[0] if depth == 0 else f"any({', '.join(texts)})"
+    return texts[0] if len(texts) == 1 else f"all({', '.join(texts)})"
+
+
+def presence_of(texts: Optional[List[str]]) -> Optional[str]:
+    """Returns what has to hold for what a `cfg` stands on that is inside of some `cfg_attr`, if it
+    is known."""
+    if texts is None:
+        return None
+    *around, own = texts
+    denied = [f"not({one})" for one in around]
+    return f"any({', '.join([*denied, own])})" if denied else own
