@@ -150,6 +150,11 @@ class Reading(unittest.TestCase):
              ["x.rs all(a, b)"], ["not(all(a, b))"]),
             ('#[cfg_attr($a, path = "x.rs")] mod m;', ["x.rs None"], [None]),
             ('#[cfg_attr(a, path = "x.rs")] mod m; mod n;', ["x.rs a"], ["not(a)"]),
+            ('#[path = "x.rs"] /* ; */ /// }\n#[doc = "{"] pub(crate) mod m;', ["x.rs"], []),
+            ('#[path = "x.rs"] use n; #[path = "y.rs"] fn f() {} mod m;', [], []),
+            ('mod n { mod m; } #[path = "x.rs"] mod o;', [], []),
+            ('// #[path = "x.rs"]\n/* #[cfg_attr(a, path = "y.rs")] */ mod m;', [], []),
+            ('#[doc = r#"path = "x.rs""#] #[cfg_attr(a, doc = r#"path = "y.rs""#)] mod m;', [], []),
         ):
             with self.subTest(code=code):
                 one = read(code).modules[0]
@@ -157,6 +162,7 @@ class Reading(unittest.TestCase):
                 paths = zip(one.paths, map(guards_of, one.path_guards))
                 self.assertEqual([" ".join([path, *map(str, of)]) for path, of in paths], wanted)
                 self.assertEqual(guards_of(one.usual_guard), usual)
+                self.assertEqual(one.has_usual_path, wanted != ["x.rs"])
 
     def test_recorded(self):
         # What rustc 1.95 sees in files that are made, as tests/judge_code records it.

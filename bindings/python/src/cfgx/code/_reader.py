@@ -21,13 +21,12 @@ from ._things import SPACES, Cursor, Space, Thing, pass_arm, thing_at
 MOST_NESTED = 16
 # White space, and a variable of a macro.
 BLANK, VARIABLE = "\t\n\x0b\x0c\r \x85\u200e\u200f\u2028\u2029", re.compile(r"\$")
-# How many characters in front of a module have its attributes, and those of a group a name.
+# How many characters in front of a group have its name.
 MOST_FRONT = 2000
 # The name of a module, in front of its group.
 INLINE = re.compile(r"\bmod\s+(?:r#)?(\w+)\s*\Z")
-# What ends the item before, and the paths that attributes have.
-ENDING = re.compile(r"[;{}]")
-PATH, OWN_PATH = re.compile(r'\bpath\s*=\s*"([^"\\]*)"'), re.compile(r"#\s*\[\s*path\b")
+# A path that an attribute gives a module.
+PATH = re.compile(r'\bpath\s*=\s*"([^"\\]*)"')
 
 
 ATTRIBUTES = {"cfg": Form.CFG, "cfg_attr": Form.CFG_ATTR}
@@ -172,7 +171,7 @@ class Reading:
         self._now_at(len(self.text))
         for scope, groups in self._scopes.items():
             self.twins += self._twins_in(scope, groups)
-        self.modules = [self._declared(*one) for one in self.skim.modules]
+        self._read_modules()
 
     def _end_of(self, group: int) -> int:
         """Returns where a group ends, or the text."""
@@ -409,20 +408,48 @@ class Reading:
                 behind = following(self.text, start)
                 place = end if behind is None else behind.end
 
-    def _declared(self, place: int, around: Sequence[int]) -> Declared:
-        """Returns the module that begins at a place, in groups that begin at others."""
+    # Modules.
+
+    def _read_modules(self) -> None:
+        """Reads the modules that have a file of their own."""
+        behind: Dict[Sequence[int], int] = {}
+        for place, around in self.skim.modules:
+            # Each token of a group is looked at once, since the next module begins behind this one.
+            begin = behind.get(around, around[-1] + 1 if around else self.skim.first)
+            self.modules.append(self._declared(place, around, self._attributes_in(begin, place)))
+            behind[around] = place
+
+    def _attributes_in(self, begin: int, place: int) -> List[Token]:
+        """Returns the attributes of the item whose word stands at a place, as the groups behind
+        their `#`. The item begins behind another place."""
+        attributes: List[Token] = []
+        before = ""
+        for token in level_tokens(self.skim, begin, place):
+            first = self.text[token.start]
+            if first in ";{":
+                attributes.clear()
+            elif before == "#" and first == "[":
+                attributes.append(token)
+            before = first
+        return attributes
+
+    def _declared(self, place: int, around: Sequence[int], attributes: Sequence[Token]) -> Declared:
+        """Returns the module that begins at a place, in groups that begin at others. The attributes
+        are the groups behind their `#`."""
         name = following(self.text, place + len("mod"))
         fronts = (INLINE.search(self.text[max(0, one - MOST_FRONT):one]) for one in around)
-        front = ENDING.split(self.text[max(0, place - MOST_FRONT):place])[-1]
-        paths = [*PATH.finditer(self.text, place - len(front), place)]
+        names = [following(self.text, one.start + 1) for one in attributes]
+        own = {one.start for one in names if one is not None and word_at(self.text, one) == "path"}
+        paths = [one for attribute in attributes
+                 for one in PATH.finditer(self.text, attribute.start, attribute.end)
+                 if one.start() in own or one.start(1) in self._path_guards]
         guards = tuple(self._path_guards.get(one.start(1)) for one in paths)
         usual: Optional[Guard] = None
         for guard in guards:
             usual = usual if guard is None else guard._replace(outer=usual, is_negated=True)
         return Declared(
             plain(self.text, name), place, tuple(one[1] for one in fronts if one is not None),
-            tuple(one[1] for one in paths), OWN_PATH.search(front) is None,
-            self._guard_at(place), guards, usual,
+            tuple(one[1] for one in paths), not own, self._guard_at(place), guards, usual,
         )
 
     def _guard_of(self, thing: Thing) -> Optional[Guard]:
