@@ -51,6 +51,7 @@ fn check_condition_call<A: SmallAllocator>(
         "Condition::decide" => check_condition_decide(alloc, condition),
         "Condition::steps" => check_condition_steps(alloc, condition),
         "eval_over" => check_eval_over(alloc, condition),
+        "write_fillings" => check_write_fillings(alloc, condition),
         _ => Ok(false),
     }
 }
@@ -198,6 +199,37 @@ fn check_condition_polar_fillings<A: SmallAllocator>(
     match UNKNOWN.get(..count) {
         Some(answers) => check_fillings(&condition.polar_fillings(alloc, answers), count),
         None => Ok(false),
+    }
+}
+
+// The byte of a buffer that nothing was written to.
+const UNWRITTEN: u8 = 7;
+
+// Returns whether each byte of the buffer is `byte`.
+fn consists_of(buffer: &[u8], byte: u8) -> bool {
+    buffer.iter().all(|one| *one == byte)
+}
+
+// Checks the fillings of unknown answers: all true, and all false. Out of memory, nothing is
+// written.
+fn check_write_fillings<A: SmallAllocator>(alloc: A, condition: &Condition<'_>) -> Outcome {
+    let count = condition.predicates().left();
+    let Some(answers) = UNKNOWN.get(..count) else {
+        return Ok(false);
+    };
+    let mut if_true = [UNWRITTEN; MOST_PREDICATES];
+    let mut if_false = [UNWRITTEN; MOST_PREDICATES];
+    let (if_true, if_false) = (&mut if_true[..count], &mut if_false[..count]);
+    let written = condition.write_fillings(alloc, answers, if_true, if_false);
+    let (one, other) = if written.is_ok() {
+        (1, 0)
+    } else {
+        (UNWRITTEN, UNWRITTEN)
+    };
+    if consists_of(if_true, one) && consists_of(if_false, other) {
+        written.and(Ok(true))
+    } else {
+        Ok(false)
     }
 }
 

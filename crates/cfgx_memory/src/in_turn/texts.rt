@@ -186,7 +186,7 @@ fn equals_copy(global: Global, text: &str, expected: &Parsed) -> bool {
 // The calls on an `evaluated` text.
 const CALLS: &str = "parse from_str try_clone eval decide polar_fillings eval_lanes steps \
     Condition::eval Condition::decide Condition::polar_fillings Condition::eval_lanes \
-    Condition::steps eval_over Decider::decide audit pick";
+    Condition::steps eval_over write_fillings Decider::decide audit pick";
 
 // Returns whether the calls of a row of the kind `kind` pass their checks.
 fn calls_pass(global: Global, kind: &str, text: &str, expected: &Parsed) -> bool {
