@@ -72,7 +72,8 @@ pub fn has_value_in_one_way()
 {}
 
 /// A text is a condition, has a fault, or is not UTF-8: no two of these. A fact that is read or
-/// passed over has no fault. So the calls that read texts and facts have one status but for memory.
+/// passed over has no fault. So a call that reads conditions and facts has one status but for
+/// memory.
 pub fn reads_in_one_way()
     ensures no_fault { (text : List ℕ) (fault : CfgxFault) → IsCondition text
         → ¬ HasFault text fault }

@@ -4,8 +4,7 @@ ghost use Rattle.std.specs.Prelude.{◌≡◌, ◌<◌};
 ghost use Rattle.cfgx_syntax.specs.Error.{Cause, cause_members, cause_number, cause_terms};
 ghost use Rattle.cfgx_syntax.specs.Terms.{HasNumberedTerms, Terms, list_number, terms_number};
 
-/// Different reasons have different numbers: two with the same number, the same number of members
-/// and the same terms are the same.
+/// Two reasons with the same number, the same number of members and the same terms are the same.
 pub fn reasons_have_different_numbers()
     ensures { (one : Cause) (other : Cause) → cause_number one ≡ cause_number other
         → cause_members one ≡ cause_members other → cause_terms one ≡ cause_terms other
