@@ -28,9 +28,9 @@
  * result stands at the start of the buffer, and the items behind it stay as they were. Otherwise
  * the whole buffer stays as it was. A call with two buffers fills both or neither. Too little room
  * changes neither the status nor another result, so compare `*needed` with `room`: CFGX_STATUS_DONE
- * does not say that the buffer was filled. Such a call does all the work too, so pass a buffer that
- * has room for most conditions, and call again for others. A condition has no more steps than
- * bytes, and a step for each predicate.
+ * does not say that the buffer was filled. Such a call still reads and evaluates all that it is
+ * passed. So pass a buffer that has room for most conditions, and call again for others. A condition
+ * has no more steps than bytes, and a step for each predicate.
  *
  * A call always writes `*value`, `*needed`, `*offset` and `*fault`. Unless it says otherwise,
  * `*value` becomes CFGX_VALUE_UNKNOWN, `*needed` and `*offset` become 0, and each member of
@@ -231,7 +231,8 @@ struct cfgx_predicate {
     size_t key_start;
     size_t key_end;
     /* the span of the value without its quotes, if the kind has one and `number` does not say it;
-     * for `unix` and `windows` that of the word; else 0 and 0. An empty value starts at its end */
+     * for `unix` and `windows` that of the word; else 0 and 0. The span of an empty value has equal
+     * ends */
     size_t value_start;
     size_t value_end;
 };
@@ -347,8 +348,8 @@ CFGX_USE_RESULT
 uint32_t cfgx_apply(const struct cfgx_step *steps, size_t step_count,
                     const uint8_t *answers, size_t answer_count, uint8_t *value);
 
-/* Evaluates many conditions on many targets. Reads each text and each fact once. There are no
- * values if one of them is faulty. So leave out the faulty texts, which `cfgx_check` finds, and the
+/* Evaluates many conditions on many targets. Reads each text once for all targets, and each fact
+ * once for all conditions. There are no values if one of them is faulty. So leave out the faulty texts, which `cfgx_check` finds, and the
  * faulty facts, which `cfgx_answers` finds, for instance with the text `true`.
  *
  * Numbering starts at 0. Target j has the facts from number `target_ends[j - 1]`, or from 0 for the
