@@ -86,9 +86,9 @@ Description-Content-Type: text/markdown
 
 This wheel has the library inside, and pip installs it without `setuptools`. A release has one for
 each system, which the end of its name says. They differ in the library alone. pip puts the pages
-into the folder `{documents}` of the environment, the manual page of `cfgx-deps` into `share/man`,
-and what bash, fish and zsh complete its words by into the folders below `share` where they look for
-it.
+into the folder `{documents}` of the environment, the manual pages of `cfgx-deps` and `cfgx-code`
+into `share/man`, and what bash, fish and zsh complete the words of `cfgx-deps` by into the folders
+below `share` where they look for it.
 
 {description}"""
 WHEEL = "Wheel-Version: 1.0\nGenerator: release/make of cfgx\nRoot-Is-Purelib: false\n"

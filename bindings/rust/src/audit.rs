@@ -371,7 +371,7 @@ impl Error for FactError {}
 ///
 /// No condition is parsed again: each different predicate is asked once about 64 targets. The
 /// memory is in proportion to the texts of the conditions, to those of the facts of 64 targets, and
-/// to the number of values.
+/// to the number of values. What the iterators yield is kept until the end.
 ///
 /// # Errors
 ///

@@ -41,7 +41,7 @@ pub struct Rustc {
 pub enum RustcError {
     /// It could not be run.
     NotRun(io::Error),
-    /// It does not know the target.
+    /// It ended with a failure, as for a target that it does not know.
     Refused {
         /// The triple of the target.
         triple: String,
@@ -81,12 +81,13 @@ impl Error for RustcError {
 
 impl Rustc {
     /// Asks a `rustc` about each target: the program that the environment variable `RUSTC` names,
-    /// or else the `rustc` on the path. Cargo takes the same one.
+    /// or else the `rustc` on the path. Cargo takes the same one, unless a configuration file of
+    /// Cargo names another.
     ///
     /// # Errors
     ///
-    /// `NotRun` if it could not be run, `Refused` if it does not know one of the targets, and
-    /// `Unread` if what it printed about one describes no target.
+    /// `NotRun` if it could not be run, `Refused` if it failed for one of the targets, as for one
+    /// that it does not know, and `Unread` if what it printed about one describes no target.
     ///
     /// ```no_run
     /// use cfgx::targets::Rustc;
@@ -136,7 +137,8 @@ impl Rustc {
                 error,
             };
             rustc.targets.push(target.map_err(unread)?);
-            rustc.facts.push(Facts::new(lines.lines()));
+            let facts = lines.lines().filter(|line| !line.is_empty());
+            rustc.facts.push(Facts::new(facts));
         }
         Ok(rustc)
     }

@@ -39,7 +39,7 @@ fn lines_of(name: &str) -> Vec<String> {
 #[test]
 #[ignore = "the test below runs it with a path of its own"]
 fn is_asked_of_targets() {
-    let triples = ["one-two", "one", "warned", "one"];
+    let triples = ["one-two", "one", "warned", "spaced", "one"];
     let rustc = Rustc::ask(triples).unwrap();
     assert_eq!(rustc.targets().len(), triples.len());
     assert_eq!(rustc.facts().len(), triples.len());
