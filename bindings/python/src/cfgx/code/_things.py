@@ -128,15 +128,24 @@ def thing_at(skim: Skim, place: int, end: int) -> Optional[Thing]:
     kind = kind_of(cursor)
     if kind:
         return item_of(cursor, first.start, kind)
-    if cursor.word() in HEADED_BLOCKS + BLOCKS or cursor.word() in ("{", "let"):
-        pass_statement(cursor)
-    elif is_label(cursor):
-        cursor.step()
-        cursor.step()
-        pass_statement(cursor)
+    if pass_start(cursor) or cursor.word() == "let":
+        is_arm = pass_statement(cursor)
     else:
-        pass_rest(cursor)
+        is_arm = pass_rest(cursor)
+    if is_arm:
+        pass_arm(cursor)
     return Thing(first.start, cursor.place, "", "", None)
+
+
+def pass_start(cursor: Cursor) -> bool:
+    """Passes a label, and returns whether an expression is next that ends with a block."""
+    if cursor.word() in HEADED_BLOCKS + BLOCKS or cursor.word() == "{":
+        return True
+    if not is_label(cursor):
+        return False
+    cursor.step()
+    cursor.step()
+    return True
 
 
 def is_label(cursor: Cursor) -> bool:
@@ -231,12 +240,27 @@ def pass_body(cursor: Cursor) -> Optional[int]:
     return None
 
 
-def pass_statement(cursor: Cursor) -> None:
-    """Goes on to behind a statement with `let`, or an expression that ends with a block."""
-    word = cursor.word()
-    if word == "let":
-        pass_mark(cursor)
-        return
+def pass_statement(cursor: Cursor) -> bool:
+    """Goes on to behind a statement with `let`, or an expression that ends with a block. Returns
+    whether that of an arm follows, whose `=>` is passed."""
+    is_on = True
+    while is_on:
+        word = cursor.word()
+        if word == "let":
+            pass_mark(cursor)
+            return False
+        if not pass_block(cursor, word):
+            return pass_rest(cursor)
+        is_on = word == "if" and cursor.word() == "else"
+        if is_on:
+            cursor.step()
+            is_on = cursor.word() in ("if", "{")
+    return cursor.word() in CONTINUING and pass_rest(cursor)
+
+
+def pass_block(cursor: Cursor, word: str) -> bool:
+    """Goes on to behind the block of an expression that begins with a word. Returns whether it has
+    a block."""
     if word != "{":
         cursor.step()
     if word in HEADED_BLOCKS:
@@ -245,16 +269,9 @@ def pass_statement(cursor: Cursor) -> None:
         while not cursor.ends("{", ";", ","):
             cursor.step()
     if cursor.word() != "{":
-        pass_rest(cursor)
-        return
+        return False
     cursor.step()
-    if word == "if" and cursor.word() == "else":
-        cursor.step()
-        if cursor.word() in ("if", "{"):
-            pass_statement(cursor)
-            return
-    if cursor.word() in CONTINUING:
-        pass_rest(cursor)
+    return True
 
 
 def pass_head(cursor: Cursor) -> None:
@@ -266,23 +283,23 @@ def pass_head(cursor: Cursor) -> None:
         cursor.step()
 
 
-def pass_rest(cursor: Cursor) -> None:
-    """Goes on to the end of an expression, a field, a variant, an arm or a parameter. A `<` behind
-    a `:` begins a list with commas, if a `>` ends it."""
+def pass_rest(cursor: Cursor) -> bool:
+    """Goes on to the end of an expression, a field, a variant or a parameter, or to behind the `=>`
+    of an arm, and returns whether it is an arm. A `<` behind a `:` begins a list with commas, if a
+    `>` ends it."""
     angles, listed, is_path, is_typed = 0, 0, True, False
     comma: Optional[int] = None
     while not cursor.ends(";") and listed < MOST_LISTED:
         word, before = cursor.word(), cursor.before
         if word in (",", ">") and angles == 0:
-            return
+            return False
         if word == "," and comma is None:
             comma = cursor.place
         cursor.step()
         if word == "=>":
-            pass_arm(cursor)
-            return
+            return True
         if word == "{" and is_path and before == "!" and cursor.word() not in CONTINUING:
-            return
+            return False
         is_path = is_path and (word in ("::", "!") or word.isidentifier())
         is_typed = is_typed or word == ":"
         angles += (word == "<" and (is_typed or before == "::")) - (word == ">")
@@ -291,18 +308,15 @@ def pass_rest(cursor: Cursor) -> None:
         cursor.step()
     if angles > 0 and comma is not None:
         cursor.place = comma
+    return False
 
 
 def pass_arm(cursor: Cursor) -> None:
     """Goes on to the end of an arm, behind its `=>`."""
-    if cursor.word() in HEADED_BLOCKS + BLOCKS or cursor.word() == "{":
-        pass_statement(cursor)
-    elif is_label(cursor):
-        cursor.step()
-        cursor.step()
-        pass_statement(cursor)
-    else:
-        pass_expression(cursor)
+    while pass_start(cursor):
+        if not pass_statement(cursor):
+            return
+    pass_expression(cursor)
 
 
 def pass_expression(cursor: Cursor) -> None:
