@@ -2,6 +2,7 @@
 by hand; the tests of rustc compare what is found with what it sees."""
 import json
 import os
+import random
 import unittest
 
 from . import HERE, needs
@@ -72,6 +73,33 @@ ROWS = [
      " f<'a>() {} #[doc = r#\"cfg!(d) \"# ] #[xcfg(e)] fn g() { cfg_(f); cfg != x; acfg!(h);"
      " }", []),
 ]
+# Code that is read up to a piece without tokens, that piece, the conditions and the items with one
+# name.
+UNFINISHED = [
+    ("#[cfg(a)] fn f() {} ", "/* open", ["a"], []),
+    ("#[cfg(a)] fn f() {} fn f() {} ", "/* open", ["a"], ["f"]),
+    ("#[cfg(a)] fn f() {} #[cfg(b)] ", '"open', ["a", "b"], []),
+    ("#[cfg(a)] fn f() {} /* c */ ", "'\\", ["a"], []),
+    ("#[cfg(a)] x ", "'+ab cd", ["a"], []),
+    ("#![cfg(a)] ", "/* /* */ open", ["a"], []),
+    ("#[cfg(a)] fn f() { cfg!(b); mod m; ", '"open', ["a", "b"], []),
+    ("#[cfg(a)] fn f() {} mod m; mod /* c */ ", "/* n;", ["a"], []),
+    ("#[cfg(a)] fn f() {} #[cfg(b, ", '"open', ["a"], []),
+    ("#[cfg(a)] fn f() {} #[cfg_attr(b, cfg(", '"open', ["a"], []),
+    ("#[cfg(a)] fn f() {} cfg!(b ", "/* open", ["a"], []),
+    ("cfg_if! { if #[cfg(a)] {} else if #[cfg(b", "/* open", ["a"], []),
+    ("cfg_select! { a => {} any(b) ", "/* open", ["a"], []),
+    ("#[cfg(a)] fn f() {} ", "} #[cfg(b)] /* open", ["a"], []),
+    ("#[cfg(a)] fn f() {} #[cfg(b", "} fn g() {} 'x", ["a"], []),
+]
+# Pieces of which code is made that may not end.
+PIECES = """
+#[cfg( #![cfg( #[cfg_attr( cfg!( cfg_if!{ cfg_select!{ if else => a any( ) ] } { ( , ; : < > | = # !
+" ' b' r#" r" " / /* */ // /// 'a x fn struct #[path="x"] #[cfg_attr(a,path="x")] match let unsafe .
+? $x -> :: #! \\ r# const use extern impl enum macro_rules! pub 1
+""".split() + ["#[cfg(a)]", "fn f() {}", "#[cfg(b)] fn f() {}", "mod m;"] * 8
+# How many texts are made of pieces, and of how many.
+TEXTS, MOST_PIECES = 4000, 16
 # Code, and the names that stand there several times, with the guards of each.
 TWINS = [
     ("#[cfg(a)] fn f() {} #[cfg(b)] fn f() {}", ["f: a | b"]),
@@ -131,6 +159,30 @@ class Reading(unittest.TestCase):
         self.assertEqual([one.text for one in code.conditions], ["a"])
         told = code.unread, code.unread_from[:2]
         self.assertEqual(told, ("a raw string does not end", (2, 19)))
+
+    def test_what_does_not_end(self):
+        for code, rest, conditions, names in UNFINISHED:
+            with self.subTest(code=code + rest):
+                found = read(code + rest)
+                self.assertIsNotNone(found.unread)
+                self.assertEqual(found.unread_from.start, len(code))
+                self.assertEqual([one.text for one in found.conditions], conditions)
+                self.assertEqual([one.items[0].name for one in found.groups if one.items], names)
+
+    def test_pieces_that_may_not_end(self):
+        made = random.Random(1)
+        for _ in range(TEXTS):
+            pieces = made.choices(PIECES, k=made.randint(1, MOST_PIECES))
+            text = made.choice(("", " ", "\n")).join(pieces)
+            with self.subTest(text=text):
+                found = read(text)
+                self.assertEqual(found.unread is None, found.unread_from is None)
+
+    def test_many_parts_of_one_thing(self):
+        for code in ("fn f() { #[cfg(a)] %s {} cfg!(b); }" % ("if x {} else " * 20_000),
+                     "fn f() { match x { #[cfg(a)] x %s y, _ => cfg!(b) } }" % ("=> {}." * 20_000),
+                     "fn f() { #[cfg(a)] 'a: %s cfg!(b); }" % ("loop {}.x => 'a: " * 20_000)):
+            self.assertEqual([one.text for one in read(code).conditions], ["a", "b"])
 
     def test_modules(self):
         [one, other] = read('#[cfg(a)] #[path = "x.rs"] mod m;\nmod n { mod o; } mod p {}').modules

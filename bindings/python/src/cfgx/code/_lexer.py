@@ -254,6 +254,8 @@ class Skim:
         # Where modules begin that have a file of their own, and the groups around them.
         self.modules: List[Tuple[int, Tuple[int, ...]]] = []
         self.problem: Optional[TokenError] = None
+        # Where it stopped.
+        self.end = len(text)
         self._open = array("q")
         # Behind the last literal that has no usual form.
         self._behind = self.first = first_place(text)
@@ -261,10 +263,10 @@ class Skim:
             place: Optional[int] = self.first
             while place is not None:
                 place = self._on_from(place)
-            if self._open:
-                raise TokenError(self.starts[self._open[-1]], "a delimiter is not closed")
         except TokenError as problem:
-            self.problem = problem
+            self.problem, self.end = problem, problem.place
+        if self.problem is None and self._open:
+            self.problem = TokenError(self.starts[self._open[-1]], "a delimiter is not closed")
 
     def _on_from(self, place: int) -> Optional[int]:
         """Goes on from a place. Returns where to go on behind a literal or a comment that has no

@@ -3,6 +3,7 @@
 A *guard* is a condition that has to hold for a piece of the code to be compiled. Guards stand
 inside of one another, as the pieces do.
 """
+import contextlib
 import heapq
 import re
 from bisect import bisect_right
@@ -126,9 +127,13 @@ class Reading:
 
     def __init__(self, text: str) -> None:
         """Reads a text."""
-        self.text = text
         self.skim = Skim(text)
         self.problem = self.skim.problem
+        # What has no tokens would be met again from each thing in front of it.
+        self._is_cut = self.skim.end < len(text)
+        if self._is_cut:
+            self.skim = Skim(text[:self.skim.end])
+        self.text = self.skim.text
         self.conditions: List[Found] = []
         self.chains: List[Chain] = []
         self.twins: List[Twins] = []
@@ -158,20 +163,33 @@ class Reading:
             while self._waiting and self._waiting[0][0] <= place:
                 start, _, guard = heapq.heappop(self._waiting)
                 self._begin(start, guard)
-            try:
+            with self._keeping_problem():
                 if not is_attribute:
                     self._read_macro(place, group)
                 elif place not in self._read:
                     self._read_attributes(place, group)
-            except TokenError as problem:
-                self.problem = self.problem or problem
         while self._waiting:
             start, _, guard = heapq.heappop(self._waiting)
             self._begin(start, guard)
         self._now_at(len(self.text))
         for scope, groups in self._scopes.items():
-            self.twins += self._twins_in(scope, groups)
-        self._read_modules()
+            with self._keeping_problem():
+                self.twins += self._twins_in(scope, groups)
+        with self._keeping_problem():
+            self._read_modules()
+
+    @contextlib.contextmanager
+    def _keeping_problem(self) -> Iterator[None]:
+        """Keeps the first problem, which ends what is read inside."""
+        try:
+            yield
+        except TokenError as problem:
+            self.problem = self.problem or problem
+
+    def expect_end(self, end: int) -> None:
+        """Raises the problem if what ends at a place goes on in what was cut off."""
+        if self.problem is not None and self._is_cut and end == len(self.text):
+            raise self.problem
 
     def _end_of(self, group: int) -> int:
         """Returns where a group ends, or the text."""
@@ -261,6 +279,7 @@ class Reading:
 
     def _read_one(self, meta: Meta, guard: Optional[Guard], attribute: Attribute) -> Found:
         """Adds the condition of `cfg` or `cfg_attr`."""
+        self.expect_end(meta.end)
         form = ATTRIBUTES[plain(self.text, meta.name)]
         is_inner = attribute.is_inner
         if meta.inside is None:
@@ -328,6 +347,7 @@ class Reading:
             return
         form, end = MACROS[word_at(self.text, name)], self.skim.end_of(opened.start)
         if form is Form.MACRO:
+            self.expect_end(end)
             self.add(form, opened.end, end, self._now_at(place))
             return
         branches = Branches(self, place, end, group, form)
@@ -396,10 +416,7 @@ class Reading:
             if attributes and attributes[0].is_inner:
                 place = start
                 continue
-            try:
-                thing = thing_at(self.skim, start, end)
-            except TokenError:
-                return
+            thing = thing_at(self.skim, start, end)
             if thing is None:
                 return
             yield thing
@@ -530,6 +547,7 @@ class Branches:
         meta = None if one is None else meta_at(self._reading.skim, one.inside, one.end)
         if one is None or meta is None or meta.inside is None:
             return None, len(self._text)
+        self._reading.expect_end(meta.end)
         self._reading.mark_read(one.start)
         return self._add(meta.inside, meta.end), one.end + 1
 
