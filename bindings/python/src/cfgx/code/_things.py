@@ -36,6 +36,8 @@ BLOCKS = ("unsafe", "loop", "async", "const", "try", "gen")
 CONTINUING = (".", "?")
 # How many tokens may stand between `<` and `>`, which need not be delimiters.
 MOST_LISTED = 1000
+# How many attributes of values a thing may have. Each of them is that of a thing inside of it.
+MOST_VALUES = 16
 # What stands behind a group in a pattern, in front of the body.
 BEHIND_PATTERN = ("=", "|", "in")
 
@@ -73,6 +75,7 @@ class Cursor:
         self._ahead: List[Token] = []
         self.place = place
         self.before = ""
+        self._values = 0
 
     def token(self, number: int = 0) -> Optional[Token]:
         """Returns the next token, or one behind it by its number, or `None` at the end."""
@@ -101,14 +104,17 @@ class Cursor:
         """Whether one of some words is next, or the level ends, or another thing begins: that is so
         at an attribute, unless it stands on an expression."""
         word = self.word()
-        is_attribute = word == "#" and self.word(1) in ("[", "!") and self.before != "="
-        return word in words or word == "" or is_attribute
+        is_attribute = word == "#" and self.word(1) in ("[", "!")
+        is_inside = self.before == "=" and self._values < MOST_VALUES
+        return word in words or word == "" or is_attribute and not is_inside
 
     def step(self) -> None:
         """Passes the next token."""
         token = self.token()
         if token is not None:
-            self.before = self.word()
+            word = self.word()
+            self._values += word == "#" and self.before == "="
+            self.before = word
             self.place = token.end
             del self._ahead[0]
 
