@@ -3,6 +3,8 @@ by hand; the tests of rustc compare what is found with what it sees."""
 import json
 import os
 import random
+import time
+import tracemalloc
 import unittest
 
 from . import HERE, needs
@@ -183,6 +185,38 @@ class Reading(unittest.TestCase):
                      "fn f() { match x { #[cfg(a)] x %s y, _ => cfg!(b) } }" % ("=> {}." * 20_000),
                      "fn f() { #[cfg(a)] 'a: %s cfg!(b); }" % ("loop {}.x => 'a: " * 20_000)):
             self.assertEqual([one.text for one in read(code).conditions], ["a", "b"])
+
+    def test_memory(self):
+        # What is repeated for each of many things would take sixty megabytes and more.
+        long = "x" * 50_000
+        for code in (f"#[cfg_attr({long}{', cfg(a)' * 2000})] fn f() {{}}",
+                     f"#[cfg_attr({long}{', cfg_attr(a, path = %s)' % repr('x') * 2000})] mod m;",
+                     f"#[cfg_attr({long}{', path = %s' % repr('x') * 2000})] mod m;",
+                     f"mod {'a' * 1900} {{" * 30 + "mod m;" * 1000):
+            code = code.replace("'", '"')
+            with self.subTest(code=code[-40:]):
+                tracemalloc.start()
+                read(code)
+                peak = tracemalloc.get_traced_memory()[1]
+                tracemalloc.stop()
+                self.assertLess(peak, 30_000_000)
+
+    def test_time(self):
+        # To go over the rest of the statement for each of its parts would take a minute.
+        start = time.process_time()
+        found = read(f"fn f() {{ let x{' = #[cfg(a)] x' * 2000}; }}")
+        self.assertEqual(len(found.conditions), 2000)
+        self.assertLess(time.process_time() - start, 30)
+
+    def test_what_is_copied_of_a_condition_is_bounded(self):
+        code = read(f"#[cfg_attr({'x' * 60_000}, cfg(a))] fn f() {{ cfg!(b) }}\n" * 2
+                    + f"#[cfg_attr({'x' * 60_000}, cfg(a))] fn g() {{ cfg!(b) }}\n" * 2)
+        guards = [one.guard.text for one in code.conditions if one.text == "b"]
+        self.assertEqual([None if one is None else len(one) for one in guards],
+                         [60_000 + len("any(not(), a)")] * 4)
+        code = read(f"#[cfg_attr({'x' * 60_000}, cfg(a), cfg(b), cfg(c))] fn f() {{ cfg!(d) }}")
+        self.assertEqual([one is None for one in guards_of(code.conditions[-1].guard)],
+                         [False, False, True])
 
     def test_modules(self):
         [one, other] = read('#[cfg(a)] #[path = "x.rs"] mod m;\nmod n { mod o; } mod p {}').modules

@@ -31,6 +31,8 @@ class Maker:
         self._numbers = {one: place for place, one in enumerate(self._order)}
         self._places = Places(reading.text, list(self._characters()), MARK)
         self._guards: Dict[int, Tuple[_reader.Guard, Guard]] = {}
+        # What is told of conditions that must not hold, by their texts. Several guards share one.
+        self._negated: Dict[str, str] = {}
 
     def code(self) -> Code:
         """Returns what was read."""
@@ -86,7 +88,9 @@ class Maker:
         for one in reversed(chain):
             text = one.text
             if text is not None and one.is_negated:
-                text = f"not({text})"
+                if text not in self._negated:
+                    self._negated[text] = f"not({text})"
+                text = self._negated[text]
             made = Guard(text, self._numbers[one.number], one.is_negated, made)
             self._guards[id(one)] = one, made
         return made

@@ -6,8 +6,11 @@ inside of one another, as the pieces do.
 import contextlib
 import heapq
 import re
-from bisect import bisect_right
-from typing import Dict, Iterable, Iterator, List, NamedTuple, Optional, Sequence, Set, Tuple
+from array import array
+from bisect import bisect_left, bisect_right
+from typing import (
+    Callable, Dict, Iterable, Iterator, List, NamedTuple, Optional, Sequence, Set, Tuple,
+)
 
 from ._attributes import (
     Attribute, Meta, attribute_at, attributes_from, following, level_tokens, list_at, meta_at,
@@ -20,6 +23,9 @@ from ._things import SPACES, Cursor, Space, Thing, pass_arm, thing_at
 
 # How many `cfg_attr` inside of one another tell what an attribute stands on when it is there.
 MOST_NESTED = 16
+# How many characters, beside as many as the file has, are copied from the conditions of `cfg_attr`
+# into what has to hold by what stands inside.
+MOST_COPIED = 1 << 16
 # White space, and a variable of a macro.
 BLANK, VARIABLE = "\t\n\x0b\x0c\r \x85\u200e\u200f\u2028\u2029", re.compile(r"\$")
 # How many characters in front of a group have its name.
@@ -138,6 +144,11 @@ class Reading:
         self.chains: List[Chain] = []
         self.twins: List[Twins] = []
         self.modules: List[Declared] = []
+        # Where white space begins at the end, and where variables of macros stand.
+        self._last = len(self.text.rstrip(BLANK))
+        self._variables = array("q", (one.start() for one in VARIABLE.finditer(self.text)))
+        # How many characters of conditions may yet be copied.
+        self._copies = len(self.text) + MOST_COPIED
         # From which places on which guard is the innermost one, in order; and that of now.
         self._starts: List[int] = []
         self._guards: List[Optional[Guard]] = []
@@ -153,6 +164,8 @@ class Reading:
         self._scope_of: Dict[int, int] = {}
         # The guards of the paths in a `cfg_attr`, by the places of their values.
         self._path_guards: Dict[int, Guard] = {}
+        # The names of modules, by the places of their groups.
+        self._inline: Dict[int, Optional[str]] = {}
         self._read_all()
 
     def _read_all(self) -> None:
@@ -222,17 +235,26 @@ class Reading:
         """Adds the condition in a piece of the text, which some tokens may end."""
         first = following(self.text, start)
         start = end if first is None else min(first.start, end)
-        last = start + len(self.text[start:end].rstrip(BLANK))
+        last = self._last_of(start, end)
         written, error = None, None
         tokens = tokens_in(self.text, start, len(self.text) if ends else end)
         try:
             written = read_condition(self.text, tokens, end, ends)
             last = written.pieces[-1].token.end
         except ConditionError as caught:
-            error = caught
+            # Without what keeps all that was read.
+            error = caught.with_traceback(None)
         found = Found(form, is_inner, start, last, written, error, guard)
         self.conditions.append(found)
         return found
+
+    def _last_of(self, start: int, end: int) -> int:
+        """Returns where the white space begins in front of a place, from another one on. Only the
+        end of the text is that of several conditions."""
+        last = self._last if end == len(self.text) else end
+        while last > start and self.text[last - 1] in BLANK:
+            last -= 1
+        return max(last, start)
 
     # Attributes.
 
@@ -271,11 +293,20 @@ class Reading:
             texts = nested_texts(found.text, guard, depth)
             if found.form is Form.CFG_ATTR:
                 inner = Guard(guard, one.end, found.text, number)
-                self._read_paths(one, Guard(None, one.end, whole_of(texts), number))
+                self._read_paths(one, texts, number)
                 waiting += [(nested, inner, depth + 1) for nested in self._nested(one)][::-1]
             else:
-                yield Guard(self._now_at(attribute.end), end,
-                            presence_of(texts), number)
+                text = self._copied(texts, presence_of)
+                yield Guard(self._now_at(attribute.end), end, text, number)
+
+    def _copied(
+        self, texts: Optional[List[str]], make: Callable[[List[str]], str]
+    ) -> Optional[str]:
+        """Returns what a function makes of conditions, or `None` if one of them is not known, or if
+        too much was copied so far."""
+        if texts is not None and len(texts) > 1:
+            self._copies -= sum(map(len, texts))
+        return None if texts is None or self._copies < 0 else make(texts)
 
     def _read_one(self, meta: Meta, guard: Optional[Guard], attribute: Attribute) -> Found:
         """Adds the condition of `cfg` or `cfg_attr`."""
@@ -304,15 +335,21 @@ class Reading:
         another one. Only the macro knows what a variable there stands for."""
         first, behind = following(self.text, start), following(self.text, place)
         start = place if first is None else min(first.start, place)
-        inside, word = self.text[start:place].rstrip(BLANK), word_at(self.text, behind)
-        is_empty = not inside or word == "]" and inside in ATTRIBUTES
+        last, word = self._last_of(start, place), word_at(self.text, behind)
+        is_attribute = last - start in map(len, ATTRIBUTES) and self.text[start:last] in ATTRIBUTES
+        is_empty = start == last or word == "]" and is_attribute
         reason = Reason.ROOTS if is_empty else Reason.UNEXPECTED
-        if word == "$" or VARIABLE.search(inside):
+        if word == "$" or self._has_variable(start, last):
             reason = Reason.VARIABLE
         error = ConditionError(reason, place, place if behind is None else behind.end)
-        found = Found(form, is_inner, start, start + len(inside), None, error, guard)
+        found = Found(form, is_inner, start, last, None, error, guard)
         self.conditions.append(found)
         return found
+
+    def _has_variable(self, start: int, end: int) -> bool:
+        """Whether a variable of a macro stands from a place on, in front of another."""
+        number = bisect_left(self._variables, start)
+        return number < len(self._variables) and self._variables[number] < end
 
     def _nested(self, meta: Meta) -> Iterator[Meta]:
         """Yields the attributes with a condition that stand in a `cfg_attr`."""
@@ -325,14 +362,17 @@ class Reading:
             if plain(self.text, one.name) in ATTRIBUTES:
                 yield one
 
-    def _read_paths(self, meta: Meta, guard: Guard) -> None:
-        """Keeps what has to hold for the paths in a `cfg_attr`."""
+    def _read_paths(self, meta: Meta, texts: Optional[List[str]], number: int) -> None:
+        """Keeps what has to hold for the paths in a `cfg_attr`: some conditions, of which the last
+        one has a number."""
         items = [] if meta.inside is None else list_at(self.skim, meta.inside, meta.end)[1:]
-        for start, end in items:
-            name = following(self.text, start)
-            path = None if name is None else PATH.match(self.text, name.start, end)
-            if path is not None:
-                self._path_guards[path.start(1)] = guard
+        names = (following(self.text, start) for start, _ in items)
+        found = [PATH.match(self.text, name.start, end)
+                 for name, (_, end) in zip(names, items) if name is not None]
+        places = [path.start(1) for path in found if path is not None]
+        if places:
+            guard = Guard(None, meta.end, self._copied(texts, whole_of), number)
+            self._path_guards.update(dict.fromkeys(places, guard))
 
     # Macros.
 
@@ -429,12 +469,13 @@ class Reading:
 
     def _read_modules(self) -> None:
         """Reads the modules that have a file of their own."""
-        behind: Dict[Sequence[int], int] = {}
+        behind: Dict[int, int] = {}
         for place, around in self.skim.modules:
             # Each token of a group is looked at once, since the next module begins behind this one.
-            begin = behind.get(around, around[-1] + 1 if around else self.skim.first)
+            group = around[-1] if around else -1
+            begin = behind.get(group, group + 1 if around else self.skim.first)
             self.modules.append(self._declared(place, around, self._attributes_in(begin, place)))
-            behind[around] = place
+            behind[group] = place
 
     def _attributes_in(self, begin: int, place: int) -> List[Token]:
         """Returns the attributes of the item whose word stands at a place, as the groups behind
@@ -454,7 +495,7 @@ class Reading:
         """Returns the module that begins at a place, in groups that begin at others. The attributes
         are the groups behind their `#`."""
         name = following(self.text, place + len("mod"))
-        fronts = (INLINE.search(self.text[max(0, one - MOST_FRONT):one]) for one in around)
+        folders = map(self._inline_name, around)
         names = [following(self.text, one.start + 1) for one in attributes]
         own = {one.start for one in names if one is not None and word_at(self.text, one) == "path"}
         paths = [one for attribute in attributes
@@ -465,9 +506,16 @@ class Reading:
         for guard in guards:
             usual = usual if guard is None else guard._replace(outer=usual, is_negated=True)
         return Declared(
-            plain(self.text, name), place, tuple(one[1] for one in fronts if one is not None),
+            plain(self.text, name), place, tuple(one for one in folders if one is not None),
             tuple(one[1] for one in paths), not own, self._guard_at(place), guards, usual,
         )
+
+    def _inline_name(self, place: int) -> Optional[str]:
+        """Returns the name of the module whose group begins at a place, if it is one."""
+        if place not in self._inline:
+            found = INLINE.search(self.text[max(0, place - MOST_FRONT):place])
+            self._inline[place] = None if found is None else found[1]
+        return self._inline[place]
 
     def _guard_of(self, thing: Thing) -> Optional[Guard]:
         """Returns the innermost guard of an item, with those inside of its body."""
@@ -586,18 +634,13 @@ def nested_texts(
     return texts if len(texts) > depth else None
 
 
-def whole_of(texts: Optional[List[str]]) -> Optional[str]:
-    """Returns what has to hold for what stands in the last of nested `cfg_attr`, if it is known."""
-    if texts is None:
-        return None
+def whole_of(texts: List[str]) -> str:
+    """Returns what has to hold for what stands in the last of nested `cfg_attr`."""
     return texts[0] if len(texts) == 1 else f"all({', '.join(texts)})"
 
 
-def presence_of(texts: Optional[List[str]]) -> Optional[str]:
-    """Returns what has to hold for what a `cfg` stands on that is inside of some `cfg_attr`, if it
-    is known."""
-    if texts is None:
-        return None
+def presence_of(texts: List[str]) -> str:
+    """Returns what has to hold for what a `cfg` stands on that is inside of some `cfg_attr`."""
     *around, own = texts
     denied = [f"not({one})" for one in around]
     return f"any({', '.join([*denied, own])})" if denied else own
