@@ -14,6 +14,13 @@ from cfgx.code._names import CHOICES
 PAGE = os.path.join(ROOT, "docs", "CODE.md")
 SCHEMA = os.path.join(PACKAGE, "cfgx", "code", "schema.json")
 CODE = '#[cfg(all(unix, windows))]\nfn f() {}\n#[cfg(not(a, b))]\nfn g() {}\n'
+# Code with a condition that rustc would refuse elsewhere.
+UNSEEN = [
+    "#[cfg(any())] mod m { #[cfg(not(a, b))] fn f() {} }",
+    "#[cfg(any())] #[cfg(not(a, b))] fn f() {}",
+    "#[cfg(any())] fn f() { cfg!(not(a, b)); }",
+    "#[cfg_attr(any(), cfg(not(a, b)))] fn f() {}",
+]
 # What would end a line, clear the screen or turn the direction of what follows.
 HOSTILE = "a\n\x1b[2J\u202e.rs"
 SHOWN = r"a\n\x1b[2J\u202e.rs"
@@ -52,6 +59,22 @@ class Statuses(Made):
             self.assertTrue(stderr.startswith(f"cfgx-code: {line}: "), stderr)
             shown = "one.rs:1:7: never\n1 | #[cfg(all(unix, windows))]\n  |       ^^^^"
             self.assertIn(shown, stdout)
+
+    def test_what_is_never_compiled(self):
+        for code in UNSEEN:
+            self.write("one.rs", code)
+            status, stdout, stderr = self.command("--fail-on", "faulty", "one.rs")
+            self.assertEqual((status, stderr), (0, ""), code)
+            self.assertIn("faulty", stdout)
+
+    @needs("rustc", untested="whether rustc reads what is never compiled")
+    def test_rustc_does_not_read_what_is_never_compiled(self):
+        for code, wanted in [*((code, True) for code in UNSEEN), ("#[cfg(not(a, b))] fn f() {}",
+                                                                  False)]:
+            path = self.write("one.rs", f"#![allow(dead_code)] {code} fn main() {{}}")
+            words = ["rustc", "--edition", "2021", "--emit", "metadata", path]
+            run = subprocess.run(words, cwd=self.folder, check=False, stderr=subprocess.PIPE)
+            self.assertEqual(run.returncode == 0, wanted, code)
 
     def test_wrong_use(self):
         self.write("one.rs", "")

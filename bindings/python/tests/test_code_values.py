@@ -4,12 +4,16 @@ import doctest
 import os
 import re
 import time
+import tracemalloc
+import unittest
 
 from . import ROOT
 from .made import Folder
 
 from cfgx import code
-from cfgx.code import Verdict
+from cfgx.code import Verdict, _findings
+from cfgx.code._model import Place
+from cfgx.code._text import Lines, marked
 
 LINUX, MAC = "x86_64-unknown-linux-gnu", "aarch64-apple-darwin"
 WINDOWS, WASM = "x86_64-pc-windows-msvc", "wasm32-unknown-unknown"
@@ -220,8 +224,56 @@ class Files(Made):
         self.assertEqual(shown(file.rows[0].answer), "ynnn")
 
 
+class Marks(unittest.TestCase):
+    """Lines with a mark under a place."""
+
+    def test_lines(self):
+        for text, place, wanted in (
+            ("a\n#[cfg(b)]\n", (2, 7, 2, 8), ["2 | #[cfg(b)]", "  |       ^"]),
+            ("\ufeff#[cfg(b)]", (1, 7, 1, 8), ["1 | #[cfg(b)]", "  |       ^"]),
+            ("#[cfg(any(\nb))]", (1, 7, 2, 3), ["1 | #[cfg(any(", "  |       ^^^^"]),
+            ("\u4e2d #[cfg(b)] \u4e2d", (1, 9, 1, 10), ["1 | \u4e2d #[cfg(b)] \u4e2d",
+                                                       "  |          ^"]),
+            ("a" * 100 + "b" + "c" * 200, (1, 101, 1, 102),
+             ["1 | " + "a" * 60 + "b" + "c" * 99, "  | " + " " * 60 + "^"]),
+            ("a" * 100 + "b" * 200, (1, 101, 1, 301),
+             ["1 | " + "a" * 60 + "b" * 100, "  | " + " " * 60 + "^" * 100]),
+        ):
+            with self.subTest(text=text):
+                self.assertEqual(list(marked(Place(*place, 0, 0), Lines(text))), wanted)
+
+    def test_a_long_line_is_not_copied(self):
+        source = Lines("x" * 1_000_000)
+        tracemalloc.start()
+        for column in range(1, 1_000_000, 100_000):
+            list(marked(Place(1, column, 1, 1_000_001, 0, 0), source))
+        peak = tracemalloc.get_traced_memory()[1]
+        tracemalloc.stop()
+        self.assertLess(peak, 100_000)
+
+
 class Costs(Made):
     """How much a report takes."""
+
+    def test_findings_inside_of_one_another(self):
+        for front in ("", "/* \u00e9 */ "):
+            path = self.write("one.rs", f"{front}fn f() {{ {'cfg!(' * 5000}{')' * 5000} }}")
+            report = code.report([path], [LINUX])
+            tracemalloc.start()
+            found = list(_findings.findings_in(report, 20))
+            size = tracemalloc.get_traced_memory()[0]
+            tracemalloc.stop()
+            self.assertEqual(len(found), 5000)
+            self.assertEqual(found[0].condition, "cfg!(cfg!(cfg!(cfg!(")
+            self.assertLess(size, 10_000_000)
+
+    def test_many_guards(self):
+        report, seconds = self.judged_in("#[cfg(a)]" * 20_000 + "fn f() {}")
+        rows = report.files[0].rows
+        self.assertEqual([rows[number].verdict for number in (0, 1, 256, 257, -1)],
+                         [Verdict.DEPENDS, Verdict.ALWAYS, Verdict.ALWAYS, Verdict.NOT_TRIED,
+                          Verdict.NOT_TRIED])
+        self.assertLess(seconds, 60)
 
     def judged_in(self, text):
         """Returns the report on a text on all targets, and the seconds of a processor."""

@@ -17,7 +17,7 @@ from ._terminal import has_colours, is_terminal, shown
 from .code import CodeError, Report, RequestError, report
 from .code import _findings, _formats, _text
 from .code._findings import Finding
-from .code._names import CHOICES, FINDINGS, LEAST, MEMBERS
+from .code._names import CHOICES, CONDITION, FINDINGS, LEAST, MEMBERS, PATH
 from .code._report import read_list
 from .manifest import ManifestError, _platforms
 from .manifest._errors import RequestError as FactsRequestError
@@ -93,8 +93,9 @@ def text_of(words: argparse.Namespace) -> Optional[str]:
 def found_in(found: Report, known: Known) -> List[Judged]:
     """Returns what is found in a report, each with the reason why it is known if it is."""
     findings = []
-    for one in _findings.findings_in(found):
-        entry = known.entry_for(one.name, {"path": one.path, "condition": one.condition})
+    # With one character more, the beginning of a longer one is none of those that are known.
+    for one in _findings.findings_in(found, known.longest(CONDITION) + 1):
+        entry = known.entry_for(one.name, {PATH: one.path, CONDITION: one.condition})
         findings.append((one, None if entry is None else entry.reason))
     return findings
 

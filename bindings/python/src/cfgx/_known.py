@@ -73,6 +73,13 @@ class Known:
             if other is not entry:
                 raise KnownError(f"entry {entry.number} repeats entry {other.number}")
 
+    def longest(self, member: str) -> int:
+        """Returns how many characters the longest value of a member has, or 0 if no entry has
+        it."""
+        values = (value for entry in self._entries for name, value in entry.members
+                  if name == member)
+        return max(map(len, values), default=0)
+
     def entry_for(self, finding: str, members: Mapping[str, str]) -> Optional[Entry]:
         """Returns the entry for what is found, of several the one with the most members, or `None`
         if it is not known. Each of them counts as one that matches."""

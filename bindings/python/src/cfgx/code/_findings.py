@@ -7,6 +7,9 @@ from ._names import FAULTY, NEVER, OVERLAP
 from ._report import File, Report
 from ._values import GroupRow, Row, Verdict
 
+# How many characters are told of the condition around another one.
+MOST_AROUND = 200
+
 
 class Finding(NamedTuple):
     """What is found at a place."""
@@ -18,30 +21,36 @@ class Finding(NamedTuple):
     place: Place
     """Where it is found."""
     condition: str
-    """The condition as it is written, or the names of the items."""
+    """The condition as it is written, or its beginning if it is a long one, or the names of the
+    items."""
     text: str
     """What is found, in a sentence."""
     related: Tuple[Place, ...] = ()
     """Other places that belong to it."""
 
 
-def findings_in(report: Report) -> Iterator[Finding]:
-    """Yields what is found in a report, in the order of files and places."""
+def findings_in(report: Report, most: int) -> Iterator[Finding]:
+    """Yields what is found in a report, in the order of files and places. Of conditions as they are
+    written, each has this many characters at most: there may be many inside of one another."""
     for file in report.files:
-        found = [one for row in file.rows for one in of_row(file, row)]
+        source = file.text.encode()
+        found = [one for row in file.rows for one in of_row(file, row, source, most)]
         found += [one for row in file.groups for one in of_group(file, row)]
         yield from sorted(found, key=lambda one: one.place.start)
 
 
-def of_row(file: File, row: Row) -> Iterator[Finding]:
-    """Yields what is found of a condition. Inside of what is never true nothing else is found."""
+def of_row(file: File, row: Row, source: bytes, most: int) -> Iterator[Finding]:
+    """Yields what is found of a condition. Inside of what is never true nothing is found, as rustc
+    does not read it."""
     one = row.condition
+    if row.within is not None or file.is_never:
+        return
+    text = written(source, one.place, most)
     if row.verdict is Verdict.FAULTY and one.problem is not None:
-        text = f"rustc refuses this condition: {one.problem.reason.value}"
-        yield Finding(FAULTY, file.path, one.problem.place, written(file, one), text)
-    if row.verdict is Verdict.NEVER and row.within is None and not file.is_never:
-        text = f"never true: {one.text}{around(one)}"
-        yield Finding(NEVER, file.path, one.place, written(file, one), text)
+        told = f"rustc refuses this condition: {one.problem.reason.value}"
+        yield Finding(FAULTY, file.path, one.problem.place, text, told)
+    if row.verdict is Verdict.NEVER:
+        yield Finding(NEVER, file.path, one.place, text, f"never true: {one.text}{around(one)}")
 
 
 def of_group(file: File, row: GroupRow) -> Iterator[Finding]:
@@ -55,18 +64,19 @@ def of_group(file: File, row: GroupRow) -> Iterator[Finding]:
         yield Finding(OVERLAP, file.path, last, name_of(group), text, tuple(places[:-1]))
 
 
-def written(file: File, one: Condition) -> str:
-    """Returns a condition as it is written in its file."""
-    if file.text.isascii():
-        return file.text[one.place.start:one.place.end]
-    return file.text.encode()[one.place.start:one.place.end].decode()
+def written(source: bytes, place: Place, most: int) -> str:
+    """Returns what is written at a place of a file, up to a number of characters."""
+    # A character has four bytes at most, and the last one may be cut.
+    data = source[place.start:min(place.end, place.start + 4 * most)]
+    return data.decode(errors="ignore")[:most]
 
 
 def around(one: Condition) -> str:
     """Returns what tells the condition around another one, or nothing."""
     if one.guard is None:
         return ""
-    return f", inside of {one.guard.text or 'what was not read'}"
+    text = one.guard.text or "what was not read"
+    return f", inside of {text if len(text) <= MOST_AROUND else f'{text[:MOST_AROUND]}..'}"
 
 
 def name_of(group: Group) -> str:

@@ -9,4 +9,4 @@ CHOICES = (
     FAULTY, "not-read", NEVER, "always", "platforms", "depends", "not-tried", NONE, TWO,
 )
 # What an entry for something known may have, and of which it has one at least.
-MEMBERS, LEAST = ("path", "condition"), ("path", "condition")
+PATH, CONDITION = MEMBERS = LEAST = ("path", "condition")

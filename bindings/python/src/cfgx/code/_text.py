@@ -6,6 +6,7 @@ from typing import Dict, FrozenSet, Iterable, Iterator, List, Optional, Sequence
 from .._terminal import Colour, cells_of, coloured, shown, wrapped
 from ..manifest._table import examples_of
 from ._findings import name_of
+from ._lexer import MARK
 from ._model import Guard, Place
 from ._names import CHOICES, NONE, TWO
 from ._report import File, Report, counted, systems_of
@@ -33,16 +34,28 @@ class Lines:
 
     def __init__(self, text: str) -> None:
         self._text = text
-        self._number, self._start = 1, 0
+        self._number = 1
+        # The mark of the byte order has no column.
+        self._start = len(MARK) if text.startswith(MARK) else 0
+        self._end = self._end_from(self._start)
 
-    def line(self, number: int) -> str:
-        """Returns the line with a number, which is that of the last call or a later one."""
+    def _end_from(self, start: int) -> int:
+        """Returns where the line ends that begins at a place."""
+        end = self._text.find("\n", start)
+        return end if end >= 0 else len(self._text)
+
+    def length(self, number: int) -> int:
+        """Returns how many characters the line with a number has, which is that of the last call or
+        a later one."""
         while self._number < number:
-            self._start = self._text.index("\n", self._start) + 1
+            self._start = self._end + 1
+            self._end = self._end_from(self._start)
             self._number += 1
-        end = self._text.find("\n", self._start)
-        line = self._text[self._start:end if end >= 0 else len(self._text)]
-        return line.lstrip("\ufeff") if number == 1 else line
+        return self._end - self._start
+
+    def part(self, first: int, last: int) -> str:
+        """Returns a part of this line: from a number of characters on, up to another number."""
+        return self._text[self._start + first:min(self._start + last, self._end)]
 
 
 class Printer:
@@ -199,14 +212,13 @@ def line_of(file: File, guard: Guard) -> int:
 def marked(place: Place, source: Lines) -> Iterator[str]:
     """Yields the line of a place, and a line with a mark under the place. Of a long line, a part
     is shown."""
-    line = source.line(place.line)
-    start = place.column - 1
-    end = place.end_column - 1 if place.end_line == place.line else len(line)
-    first = max(0, start - BEFORE) if len(line) > MOST else 0
-    before, inside = shown(line[first:start]), shown(line[start:end])
+    length, start = source.length(place.line), place.column - 1
+    end = place.end_column - 1 if place.end_line == place.line else length
+    first = max(0, start - BEFORE) if length > MOST else 0
+    before, inside = shown(source.part(first, start)), source.part(start, min(end, start + MOST))
     number = str(place.line)
-    yield f"{number} | {shown(line[first:first + MOST])}"
-    mark = "^" * max(1, min(cells_of(inside), MOST - min(MOST, cells_of(before))))
+    yield f"{number} | {shown(source.part(first, first + MOST))}"
+    mark = "^" * max(1, min(cells_of(shown(inside)), MOST - min(MOST, cells_of(before))))
     yield f"{' ' * len(number)} | {' ' * cells_of(before)}{mark}"
 
 

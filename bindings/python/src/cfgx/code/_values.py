@@ -21,10 +21,10 @@ FIXED = re.compile(
     r"unix|windows|unix=.*|windows=.*|target_has_atomic=.*"
     r"|target_(?:abi|arch|endian|env|family|os|pointer_width|vendor)(?:=.*)?", re.DOTALL
 )
-# How many characters one question may have, and all of a report. A condition inside of ten thousand
-# others, or the last of as many branches, would have too many.
+# How many characters one question may have, and all of a report.
 MOST_CHARACTERS, MOST_ALL = 1 << 16, 1 << 25
-# How many guards around a condition are looked at one by one.
+# How many guards around a condition are looked at. One inside of ten thousand others, or the last of
+# as many branches, has too many.
 MOST_AROUND = 256
 # Of how many items or branches it is asked whether two are taken.
 MOST_COMPARED = 32
@@ -102,18 +102,14 @@ def is_open(text: str) -> bool:
 
 def guard_texts(guard: Optional[Guard], outside: Optional[Guard] = None) -> Optional[List[str]]:
     """Returns what has to hold by a guard and those around it up to another one, from the outside
-    in, each once. Those that were not read are left out. Returns `None` if it is too long."""
-    texts: List[str] = []
-    size = 0
-    for one in [] if guard is None else guard.all:
-        if one is outside:
-            break
-        if one.text is not None:
-            texts.append(one.text)
-        size += len(one.text or "") + 1
-        if size > MOST_CHARACTERS:
-            return None
-    return list(dict.fromkeys(reversed(texts)))
+    in, each once. Those that were not read are left out. Returns `None` if they are too many or too
+    long."""
+    inside = itertools.takewhile(lambda one: one is not outside, [] if guard is None else guard.all)
+    around = list(itertools.islice(inside, MOST_AROUND + 1))
+    texts = [one.text for one in reversed(around) if one.text is not None]
+    if len(around) > MOST_AROUND or sum(map(len, texts)) + len(around) > MOST_CHARACTERS:
+        return None
+    return list(dict.fromkeys(texts))
 
 
 def is_whole(guard: Optional[Guard], outside: Optional[Guard] = None) -> bool:
@@ -144,6 +140,8 @@ class Questions:
         """Takes the question whether all of some conditions hold, and returns its name, or `None`
         if it is too long."""
         if texts is None:
+            return None
+        if sum(map(len, texts)) > MOST_CHARACTERS:
             return None
         name = all_of(texts)
         if name not in self._waiting and name not in self._answers:
