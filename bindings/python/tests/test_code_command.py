@@ -29,11 +29,12 @@ SHOWN = r"a\n\x1b[2J\u202e.rs"
 class Made(Folder):
     """Files in a folder of their own, and the command."""
 
-    def command(self, *words, folder=None):
-        """Returns the status of the command in the folder, and what it prints on both streams."""
+    def command(self, *words, folder=None, front=()):
+        """Returns the status of the command in the folder, and what it prints on both streams. It
+        stands behind other words."""
         script = os.path.abspath(os.path.join(PACKAGE, "cfgx_code.py"))
         run = subprocess.run(
-            [sys.executable, script, *words], cwd=folder or self.folder, check=False,
+            [*front, sys.executable, script, *words], cwd=folder or self.folder, check=False,
             stdout=subprocess.PIPE, stderr=subprocess.PIPE,
             env={"PATH": os.environ["PATH"], "PYTHONUTF8": "1", "PYTHONDONTWRITEBYTECODE": "1",
                  "CFGX_LIBRARY": _library.path_of(), "HOME": os.environ.get("HOME", "/")},
@@ -95,6 +96,27 @@ class Statuses(Made):
         self.assertEqual(self.command("Cargo.toml")[0], 3)
         self.write("known.toml", "[[known]]\n")
         self.assertEqual(self.command("--known", "known.toml")[0], 3)
+
+    def test_a_current_folder_that_is_gone(self):
+        path = self.write("one.rs", "#[cfg(unix)] fn f() {}")
+        gone = os.path.join(self.folder, "gone")
+        for words, wanted in (([], 3), (["."], 3), (["Cargo.toml"], 3), (["--manifest-path", "x"], 3),
+                              ([path, "--format", "sarif"], 3), ([path], 0)):
+            os.mkdir(gone)
+            front = ("sh", "-c", 'rmdir "$PWD" && exec "$@"', "sh")
+            status, _, stderr = self.command(*words, folder=gone, front=front)
+            self.assertEqual(status, wanted, (words, stderr))
+            self.assertEqual(stderr.count("\n"), 1 if wanted else 0, stderr)
+            self.assertEqual("current folder" in stderr, wanted != 0, stderr)
+
+    def test_two_files_of_facts_with_one_name(self):
+        self.write("one.rs", "#[cfg(unix)] fn f() {}")
+        lines = 'target_arch="x"\ntarget_endian="little"\ntarget_pointer_width="64"\n'
+        for name in ("a/t.cfg", "b/t.txt"):
+            self.write(name, lines)
+        found = self.command("--facts", "a/t.cfg,b/t.txt", "one.rs")
+        self.assertEqual(found, (2, "", "cfgx-code: two files of facts have the name t\n"))
+        self.assertEqual(self.command("--facts", "a/t.cfg", "one.rs")[0], 0)
 
     def test_known(self):
         self.write("one.rs", CODE)

@@ -2,10 +2,12 @@
 import json
 import os
 import unittest
+import unittest.mock
 
 from .made import Folder
 
 from cfgx import _sarif
+from cfgx._output import OutputError
 from cfgx._sarif import Finding, Level, Place, Region, Rule, Run, Tool
 
 TOOL = Tool("cfgx-some", "1.2.3", [Rule("never", "It is never true.", Level.WARNING),
@@ -137,3 +139,12 @@ class Texts(Folder):
         os.chdir(os.path.join(self.folder, "a"))
         others = [path, os.path.join(self.folder, "d/Cargo.toml")]
         self.assertEqual(_sarif.base_of(others), self.folder)
+
+    def test_paths_that_begin_nowhere(self):
+        for name, error, wanted in (
+            ("getcwd", FileNotFoundError(2, "No such file"), "current folder cannot be read: No such"),
+            ("path.commonpath", ValueError("Paths don't have the same drive"), "the same drive"),
+        ):
+            with unittest.mock.patch(f"os.{name}", side_effect=error), \
+                    self.assertRaisesRegex(OutputError, wanted):
+                _sarif.base_of(["/a/b"])

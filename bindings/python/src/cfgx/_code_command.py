@@ -58,7 +58,7 @@ def report_of(words: argparse.Namespace) -> Report:
     return report(
         words.paths or ([] if has_package else [os.curdir]), targets_of(words),
         manifest=words.manifest_path, packages=words.package,
-        facts=dict(map(_platforms.read_facts, words.facts)), flags=words.cfg,
+        facts=_platforms.facts_of(words.facts), flags=words.cfg,
         has_other_flags=not words.no_other_cfg, cargo_timeout=words.cargo_timeout,
     )
 

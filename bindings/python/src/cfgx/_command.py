@@ -5,7 +5,7 @@ import gc
 import os
 import shutil
 import sys
-from typing import Any, Dict, Iterable, Iterator, List, Optional, Sequence, Union
+from typing import Any, Dict, Iterator, Optional, Sequence, Union
 
 from . import __version__, _known
 from ._arguments import parser_of
@@ -38,23 +38,12 @@ def parser(name: str = NAME) -> Parser:
     return made
 
 
-def facts_of(paths: Iterable[str]) -> Dict[str, List[str]]:
-    """Returns the facts of each file by the triple that its name has."""
-    facts: Dict[str, List[str]] = {}
-    for path in paths:
-        triple, lines = _platforms.read_facts(path)
-        if triple in facts:
-            raise RequestError(f"two files of facts have the name {triple}")
-        facts[triple] = lines
-    return facts
-
-
 def report_of(words: argparse.Namespace) -> Found:
     """Returns the report that arguments ask for. Raises a `ManifestError`."""
     progress = Progress(None if words.quiet else sys.stderr, "asked rustc of targets")
     asked: Dict[str, Any] = {
         "packages": words.package, "workspace": words.workspace, "exclude": words.exclude,
-        "kinds": words.kind or KINDS, "facts": facts_of(words.facts), "cfg": words.cfg,
+        "kinds": words.kind or KINDS, "facts": _platforms.facts_of(words.facts), "cfg": words.cfg,
         "no_other_cfg": words.no_other_cfg, "rustc": words.rustc, "host": words.host,
         "rustflags": (_flags.rustflags_of(os.environ) or []) if words.rustflags else None,
         "cargo_timeout": words.cargo_timeout, "progress": progress,

@@ -10,6 +10,8 @@ import os
 import urllib.parse
 from typing import Any, Dict, Iterable, Iterator, NamedTuple, Optional, Sequence
 
+from ._output import OutputError
+
 VERSION = "2.1.0"
 SCHEMA = ("https://docs.oasis-open.org/sarif/sarif/v2.1.0/errata01/os/schemas/"
           "sarif-schema-2.1.0.json")
@@ -167,5 +169,11 @@ def uri_of(path: str) -> str:
 
 def base_of(paths: Sequence[str]) -> str:
     """Returns the folder at which paths begin: the current one, or the first above it that has all
-    files with these whole paths."""
-    return os.path.commonpath([os.getcwd(), *(os.path.dirname(path) for path in paths)])
+    files with these whole paths. Raises `OutputError` if there is none."""
+    try:
+        return os.path.commonpath([os.getcwd(), *(os.path.dirname(path) for path in paths)])
+    except OSError as error:
+        raise OutputError(f"the current folder cannot be read: {error.strerror}") from error
+    except ValueError as error:
+        # As on Windows, where paths may begin at different drives.
+        raise OutputError(f"no folder has the current one and all files: {error}") from error

@@ -1,5 +1,6 @@
 """What the conditions of many files are on targets."""
 import collections
+import contextlib
 import dataclasses
 import json
 import os
@@ -10,7 +11,7 @@ from .. import _files
 from ..manifest import CargoError, ManifestError, _cargo, _platforms
 from ..manifest._platforms import Flags, Platform
 from . import _folders
-from ._errors import PackageError, RequestError
+from ._errors import CodeError, PackageError, RequestError
 from ._folders import Passed, Source
 from ._made import read
 from ._model import Code
@@ -114,8 +115,8 @@ def report(
     takes them. Anything that is not on the target may be set or not, unless `has_other_flags` is
     false: then it is as rustc prints, and what it does not print is false.
 
-    Raises `RequestError` for a path, a target, a package or a flag that is none, and `PackageError`
-    if cargo refuses a manifest.
+    Raises `RequestError` for a path, a target, a package or a flag that is none, `PackageError` if
+    cargo refuses a manifest, and another `CodeError` if the current folder is gone.
 
     >>> import cfgx.code
     >>> try:
@@ -128,14 +129,24 @@ def report(
                         ("flags", flags)):
         if isinstance(value, str):
             raise TypeError(f"{name} is a text, and no list of texts")
-    try:
+    with raising_own():
         platforms = platforms_of(targets, facts or {}, Flags(tuple(flags), (), has_other_flags))
         where = [*places_of(paths, manifest, packages, cargo_timeout)]
+        return report_on(_folders.sources_in(where), platforms)
+
+
+@contextlib.contextmanager
+def raising_own() -> Iterator[None]:
+    """Raises a `CodeError` for another error that what is inside raises."""
+    try:
+        yield
     except CargoError as error:
         raise PackageError(str(error)) from error
     except ManifestError as error:
         raise RequestError(str(error)) from error
-    return report_on(_folders.sources_in(where), platforms)
+    except OSError as error:
+        # A file that cannot be read is passed over.
+        raise CodeError(f"the current folder cannot be read: {error.strerror}") from error
 
 
 def report_on(entries: Iterable[_folders.Entry], platforms: Sequence[Platform]) -> Report:

@@ -5,7 +5,7 @@ import io
 import os
 from concurrent import futures
 from typing import (
-    Callable, FrozenSet, Iterable, List, Mapping, Optional, Sequence, Tuple, Union,
+    Callable, Dict, FrozenSet, Iterable, List, Mapping, Optional, Sequence, Tuple, Union,
 )
 
 import cfgx
@@ -207,6 +207,18 @@ def read_facts(path: str) -> Tuple[str, List[str]]:
         if key not in keys:
             raise FactsError(f"{path} has no `{key}`: did rustc fail?")
     return stem if end in FILE_ENDS else name, lines
+
+
+def facts_of(paths: Iterable[str]) -> Dict[str, List[str]]:
+    """Returns the lines of each file of facts by the triple that its name has. Raises `FactsError`,
+    and `RequestError` if two files have one triple."""
+    facts: Dict[str, List[str]] = {}
+    for path in paths:
+        triple, lines = read_facts(path)
+        if triple in facts:
+            raise RequestError(f"two files of facts have the name {triple}")
+        facts[triple] = lines
+    return facts
 
 
 def platforms_of(
