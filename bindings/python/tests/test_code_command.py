@@ -100,7 +100,8 @@ class Statuses(Made):
     def test_a_current_folder_that_is_gone(self):
         path = self.write("one.rs", "#[cfg(unix)] fn f() {}")
         gone = os.path.join(self.folder, "gone")
-        for words, wanted in (([], 3), (["."], 3), (["Cargo.toml"], 3), (["--manifest-path", "x"], 3),
+        for words, wanted in (([], 3), (["."], 3), (["Cargo.toml"], 3),
+                              (["--manifest-path", "x"], 3),
                               ([path, "--format", "sarif"], 3), ([path], 0)):
             os.mkdir(gone)
             front = ("sh", "-c", 'rmdir "$PWD" && exec "$@"', "sh")

@@ -142,7 +142,7 @@ class Texts(Folder):
 
     def test_paths_that_begin_nowhere(self):
         for name, error, wanted in (
-            ("getcwd", FileNotFoundError(2, "No such file"), "current folder cannot be read: No such"),
+            ("getcwd", FileNotFoundError(2, "No such file"), "folder cannot be read: No such"),
             ("path.commonpath", ValueError("Paths don't have the same drive"), "the same drive"),
         ):
             with unittest.mock.patch(f"os.{name}", side_effect=error), \

@@ -23,7 +23,7 @@ FIXED = re.compile(
 )
 # How many characters one question may have, and all of a report.
 MOST_CHARACTERS, MOST_ALL = 1 << 16, 1 << 25
-# How many guards around a condition are looked at. One inside of ten thousand others, or the last of
+# How many guards around a condition are looked at. One inside of a thousand others, or the last of
 # as many branches, has too many.
 MOST_AROUND = 256
 # Of how many items or branches it is asked whether two are taken.
