@@ -18,8 +18,8 @@ Windows `cfgx.dll`. It loads this when it is imported: the file that the environ
 `ImportError` says what to do if there is none.
 `__version__` is the version of the package, and `version()` that of the library.
 
-Every call raises `MemoryError` if the engine gets no memory, and `UnicodeEncodeError` for a `str`
-that UTF-8 cannot encode, which has a lone surrogate.
+Every call raises `MemoryError` if the engine gets no memory. A `str` with a lone surrogate, which
+UTF-8 cannot encode, raises `UnicodeEncodeError`, but `target_facts` raises `ValueError` for it.
 
 Threads may share all objects. A function that `signal.signal` is passed may call, since Python runs
 it between two calls. Nothing may call from a signal handler itself, as native code can, nor in the

@@ -13,8 +13,9 @@ DESCRIPTION = (
     " cfg_if! and cfg_select!. Compiles nothing, and runs no code of the files."
 )
 EPILOG = (
-    "The status is 0. It is 1 if --fail-on finds something, 2 if an argument is wrong, and 3 if"
-    " something cannot be read, something else fails, or values were not tried out."
+    "The status is 0. It is 1 if --fail-on finds something, 2 if an argument, the file of --ci or a"
+    " line of --facts is wrong, and 3 if the command could not run, or values were not tried out. A"
+    " file of Rust that cannot be read is passed over, with a note."
 )
 FORMATS = ("text", "json", "tsv", "sarif")
 
@@ -41,7 +42,8 @@ def add_places(made: argparse.ArgumentParser) -> None:
 
 def add_targets(made: argparse.ArgumentParser) -> None:
     """Adds the arguments that say for what conditions are judged."""
-    several(made, "--target", metavar="TRIPLE", told="a target, or all; without one, all")
+    several(made, "--target", metavar="TRIPLE",
+            told="a target, or all; without one, --ci and --facts, all")
     add = made.add_argument
     add("--ci", metavar="FILE", help="the targets that a file lists, one in a line")
     several(made, "--facts", metavar="FILE", divided=paths,
@@ -55,7 +57,8 @@ def add_targets(made: argparse.ArgumentParser) -> None:
 def add_output(made: argparse.ArgumentParser) -> None:
     """Adds the arguments that say what is printed, and which status is returned."""
     several(made, "--only", metavar=one_of(CHOICES),
-            told="print only what is so; none and two are for what belongs together")
+            told="print only what is so; none and two are for what belongs together, of which JSON"
+                 " has all")
     add = made.add_argument
     add("--format", choices=FORMATS, default=FORMATS[0], help="what is printed")
     add("--summary", action="store_true", help="count what the conditions of each file are")

@@ -1,8 +1,8 @@
 """Which dependencies of a `Cargo.toml` Cargo takes on each platform.
 
 `report` is what the command `cfgx-deps` prints. It starts `cargo` in the folder `/` for the list of
-dependencies and for the host, and no other program unless `asks_rustc` is set. `resolved` is what
-the command prints with `--resolved`: which packages of a lock file a build for each platform has.
+dependencies and for the host, and no other program unless `rustc` is true. `resolved` is what the
+command prints with `--resolved`: which packages of a lock file a build for each platform has.
 
 Cargo reads the condition of a dependency for each *unit* that it builds of the package, on the
 platform of the unit. With a target, build scripts and proc-macros are units for the host, and so is
