@@ -6,6 +6,7 @@ import re
 import time
 import tracemalloc
 import unittest
+import unittest.mock
 
 from . import ROOT
 from .made import Folder
@@ -266,6 +267,15 @@ class Costs(Made):
             self.assertEqual(len(found), 5000)
             self.assertEqual(found[0].condition, "cfg!(cfg!(cfg!(cfg!(")
             self.assertLess(size, 10_000_000)
+
+    def test_long_paths_of_modules(self):
+        front = "".join(f"mod {'a' * 1900} {{" for _ in range(32))
+        self.write("lib.rs", f"{front} {'mod b;' * 20_000} {'}' * 32}")
+        start = time.process_time()
+        with unittest.mock.patch("os.path.normpath", wraps=os.path.normpath) as normal:
+            self.assertEqual(code.report([self.folder], [LINUX]).files, ())
+        self.assertLess(normal.call_count, 100)
+        self.assertLess(time.process_time() - start, 60)
 
     def test_many_guards(self):
         report, seconds = self.judged_in("#[cfg(a)]" * 20_000 + "fn f() {}")

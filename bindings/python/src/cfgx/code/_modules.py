@@ -12,6 +12,8 @@ from ._values import MOST_CHARACTERS, all_of, guard_texts
 
 # The files whose modules stand beside them, and those that no module has.
 BESIDE, ROOTS = ("mod.rs", "lib.rs", "main.rs"), ("lib.rs", "main.rs", "build.rs")
+# How many characters the path of a file has at most. Linux opens no longer one.
+MOST_PATH = 4096
 
 
 class Use(NamedTuple):
@@ -58,6 +60,8 @@ class Modules:
 
     def _number_of(self, *parts: str) -> Iterator[int]:
         """Yields the number of the file at a path, if it was read and is no root."""
+        if sum(map(len, parts)) > MOST_PATH:
+            return
         path = os.path.normpath(os.path.join(*parts))
         if path in self._numbers and os.path.basename(path) not in ROOTS:
             yield self._numbers[path]
