@@ -14,6 +14,7 @@ from .made import Folder
 from cfgx import code
 from cfgx.code import Verdict, _findings
 from cfgx.code._model import Place
+from cfgx.code._modules import Modules
 from cfgx.code._text import Lines, marked
 
 LINUX, MAC = "x86_64-unknown-linux-gnu", "aarch64-apple-darwin"
@@ -267,6 +268,29 @@ class Costs(Made):
             self.assertEqual(len(found), 5000)
             self.assertEqual(found[0].condition, "cfg!(cfg!(cfg!(cfg!(")
             self.assertLess(size, 10_000_000)
+
+    def test_many_modules_of_one_file(self):
+        # To keep what has to hold for each of them would take a hundred megabytes.
+        modules = "".join(f'#[cfg(a{number})] #[path = "../x.rs"] mod m;' for number in range(2000))
+        texts = [f"#[cfg({'b' * 50_000})] mod n {{ {modules} }}", "#[cfg(unix)] fn f() {}"]
+        codes = list(map(code.read, texts))
+        tracemalloc.start()
+        found = Modules(["/lib.rs", "/x.rs"], codes).context(1)
+        peak = tracemalloc.get_traced_memory()[1]
+        tracemalloc.stop()
+        self.assertEqual(found, [])
+        self.assertLess(peak, 10_000_000)
+
+    def test_files_that_lead_to_each_other(self):
+        # To look at each module of a file for each module of the other one would take a minute.
+        self.write("a.rs", '#[path = "b.rs"] mod m;' * 20_000)
+        self.write("b.rs", '#[path = "a.rs"] mod m;' * 20_000)
+        self.write("c.rs", '#[cfg(a)] #[path = "d.rs"] mod d;')
+        self.write("d.rs", "#[cfg(unix)] fn f() {}")
+        start = time.process_time()
+        report = code.report([self.folder], [LINUX])
+        self.assertEqual([file.context for file in report.files], [(), ("a",)])
+        self.assertLess(time.process_time() - start, 30)
 
     def test_long_paths_of_modules(self):
         front = "".join(f"mod {'a' * 1900} {{" for _ in range(32))

@@ -14,6 +14,8 @@ from ._values import MOST_CHARACTERS, all_of, guard_texts
 BESIDE, ROOTS = ("mod.rs", "lib.rs", "main.rs"), ("lib.rs", "main.rs", "build.rs")
 # How many characters the path of a file has at most. Linux opens no longer one.
 MOST_PATH = 4096
+# How many modules of one file tell what has to hold for it.
+MOST_USES = 256
 
 
 class Use(NamedTuple):
@@ -77,7 +79,7 @@ class Modules:
         begun: Set[int] = set()
         while waiting:
             one = waiting[-1]
-            before = [use.file for use in self._uses.get(one, [])]
+            before = dict.fromkeys(use.file for use in self._uses.get(one, []))
             missing = [file for file in before if file not in self._contexts and file not in begun]
             begun.add(one)
             if missing and one not in self._contexts:
@@ -88,7 +90,10 @@ class Modules:
                 self._contexts[one] = self._of_uses(self._uses.get(one, []))
 
     def _of_uses(self, uses: Sequence[Use]) -> List[str]:
-        """Returns what has to hold for one of some modules to be there."""
+        """Returns what has to hold for one of some modules to be there, or nothing if that is too
+        much to tell."""
+        if len(uses) > MOST_USES:
+            return []
         each = [self._of_use(use) for use in uses]
         if not each or not all(each):
             return []
