@@ -281,6 +281,19 @@ class Costs(Made):
         self.assertEqual(found, [])
         self.assertLess(peak, 10_000_000)
 
+    def test_many_items_with_one_name(self):
+        # To keep for each of them what has to hold would take a hundred megabytes.
+        text = (f"cfg_if! {{ if #[cfg({'a' * 30_000})] {{}} else if #[cfg(b)] {{}} else {{"
+                f" {'fn f() {}' * 5000} }} }} #[cfg(c)] fn f() {{}}")
+        path = self.write("one.rs", text)
+        tracemalloc.start()
+        report = code.report([path], [LINUX])
+        peak = tracemalloc.get_traced_memory()[1]
+        tracemalloc.stop()
+        [group] = [row for row in report.files[0].groups if row.group.items]
+        self.assertEqual((len(group.group.items), group.none, group.two), (5001, None, None))
+        self.assertLess(peak, 50_000_000)
+
     def test_files_that_lead_to_each_other(self):
         # To look at each module of a file for each module of the other one would take a minute.
         self.write("a.rs", '#[path = "b.rs"] mod m;' * 20_000)

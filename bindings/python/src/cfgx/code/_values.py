@@ -255,12 +255,12 @@ class Judged:
 
     def _ask_group(self, group: Group) -> Tuple[Optional[str], Optional[str]]:
         """Asks where none and where two of a group are taken."""
-        around, parts = guard_texts(group.guard), list(self._parts(group))
+        around, parts = guard_texts(group.guard), self._short_parts(group)
+        if around is None or parts is None:
+            return None, None
         known = [part for part in parts if part is not None]
         none = two = None
-        around = None if around is None else [*self._context, *around]
-        if around is None or sum(map(len, known)) > MOST_CHARACTERS:
-            return None, None
+        around = [*self._context, *around]
         if not group.has_last and len(known) == len(parts):
             none = self._questions.ask([*around, *(f"not({part})" for part in known)])
         if 1 < len(known) <= MOST_COMPARED:
@@ -268,6 +268,17 @@ class Judged:
             both = ", ".join(f"all({one}, {other})" for one, other in pairs)
             two = self._questions.ask([*around, f"any({both})"])
         return none, two
+
+    def _short_parts(self, group: Group) -> Optional[List[Optional[str]]]:
+        """Returns the parts of a group, or `None` if they are too long."""
+        parts: List[Optional[str]] = []
+        size = 0
+        for part in self._parts(group):
+            parts.append(part)
+            size += len(part or "")
+            if size > MOST_CHARACTERS:
+                return None
+        return parts
 
     def _parts(self, group: Group) -> Iterator[Optional[str]]:
         """Yields when each item or branch of a group is taken, beside the guard of the group, or
