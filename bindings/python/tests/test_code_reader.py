@@ -209,14 +209,14 @@ class Reading(unittest.TestCase):
         self.assertLess(time.process_time() - start, 30)
 
     def test_what_is_copied_of_a_condition_is_bounded(self):
-        code = read(f"#[cfg_attr({'x' * 60_000}, cfg(a))] fn f() {{ cfg!(b) }}\n" * 2
-                    + f"#[cfg_attr({'x' * 60_000}, cfg(a))] fn g() {{ cfg!(b) }}\n" * 2)
+        code = read(f"#[cfg_attr({'x' * 60_000}, cfg(a))] fn f() {{ cfg!(b) }}\n" * 4)
         guards = [one.guard.text for one in code.conditions if one.text == "b"]
         self.assertEqual([None if one is None else len(one) for one in guards],
                          [60_000 + len("any(not(), a)")] * 4)
-        code = read(f"#[cfg_attr({'x' * 60_000}, cfg(a), cfg(b), cfg(c))] fn f() {{ cfg!(d) }}")
+        code = read(f"#[cfg_attr({'x' * 60_000}, cfg(a), cfg(b), cfg(c))] #[cfg(d)] fn f()"
+                    " { cfg!(e) }")
         self.assertEqual([one is None for one in guards_of(code.conditions[-1].guard)],
-                         [False, False, True])
+                         [False, False, True, False])
 
     def test_modules(self):
         [one, other] = read('#[cfg(a)] #[path = "x.rs"] mod m;\nmod n { mod o; } mod p {}').modules

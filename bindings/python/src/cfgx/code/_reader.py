@@ -303,10 +303,12 @@ class Reading:
         self, texts: Optional[List[str]], make: Callable[[List[str]], str]
     ) -> Optional[str]:
         """Returns what a function makes of conditions, or `None` if one of them is not known, or if
-        too much was copied so far."""
-        if texts is not None and len(texts) > 1:
+        too much was copied so far. A single one is not copied."""
+        if texts is None:
+            return None
+        if len(texts) > 1:
             self._copies -= sum(map(len, texts))
-        return None if texts is None or self._copies < 0 else make(texts)
+        return make(texts) if len(texts) == 1 or self._copies >= 0 else None
 
     def _read_one(self, meta: Meta, guard: Optional[Guard], attribute: Attribute) -> Found:
         """Adds the condition of `cfg` or `cfg_attr`."""
