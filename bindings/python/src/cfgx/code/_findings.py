@@ -8,7 +8,7 @@ from ._report import File, Report
 from ._values import GroupRow, Row, Verdict
 
 # How many characters are told of the condition around another one.
-MOST_AROUND = 200
+MOST_TOLD = 200
 
 
 class Finding(NamedTuple):
@@ -76,7 +76,7 @@ def around(one: Condition) -> str:
     if one.guard is None:
         return ""
     text = one.guard.text or "what was not read"
-    return f", inside of {text if len(text) <= MOST_AROUND else f'{text[:MOST_AROUND]}..'}"
+    return f", inside of {text if len(text) <= MOST_TOLD else f'{text[:MOST_TOLD]}..'}"
 
 
 def name_of(group: Group) -> str:
