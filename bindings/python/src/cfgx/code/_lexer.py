@@ -63,7 +63,7 @@ OPEN, CLOSE, BLOCK, STRING, CHARACTER, POUND, NAME, MODULE = (
     for name in ("open", "close", "block", "string", "character", "pound", "name", "module")
 )
 # In how many groups at most a module that has a file of its own may stand.
-MOST_AROUND = 32
+MOST_GROUPS = 32
 # An attribute of another name, which needs no closer look.
 OTHER_ATTRIBUTE = re.compile(r"#!?\[(?!r#|cfg)[A-Za-z_]")
 # The word at the end of a text.
@@ -295,7 +295,7 @@ class Skim:
         """Keeps the place of a `#`, of the name of a macro or of a module."""
         around = self._open[-1] if self._open else -1
         if group == MODULE:
-            if len(self._open) <= MOST_AROUND:
+            if len(self._open) <= MOST_GROUPS:
                 self.modules.append((place, tuple(self.starts[one] for one in self._open)))
         elif group == NAME:
             self.names.append((place, around))
