@@ -11,7 +11,8 @@ use Rattle.cfg_expr.specs.Filling.{filled_by, polar, polarities, polarities_each
 use Rattle.cfg_expr.specs.Fold.{tree_fold}
 use Rattle.cfgx_grammar.proofs.Alike.{Alike, AlikeEach, asked-alike}
 use Rattle.cfg_expr.proofs.SameShapes.{polarities-shape}
-use Rattle.cfgx_parser.specs.nodes.Prefix.{Node, list_func, node_at, prefix, prefix_each, places}
+use Rattle.cfgx_parser.specs.nodes.Prefix.{Node, node_at, prefix, prefix_each, places}
+use Rattle.cfgx_parser.specs.Order.{list_func}
 use Rattle.cfgx_parser.specs.nodes.Shape.{Shape, shape, shape_of}
 use Rattle.cfgx_parser.proofs.Shapes.{length-shape, places-shape}
 use Rattle.cfgx_parser.specs.declared.nodes.ExprNode.{ExprNode}

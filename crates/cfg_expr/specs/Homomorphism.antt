@@ -7,8 +7,9 @@ use Rattle.cfgx_grammar.specs.Tree.{Tree}
 use Rattle.cfg_expr.specs.Fold.{Operations, tree_fold}
 use Rattle.cfg_expr.specs.Filling.{three_valued}
 
--- The map takes each constant and each operation of one logic to that of another. `Holds` is known
--- of every value of the first logic, such as the invariant of its type, and the operations keep it.
+-- The map takes each constant and each operation of one logic to that of another. `Holds` says of
+-- values of the first logic what the map needs: the constants have it, the operations keep it, and
+-- they are taken to those of the other logic over operands that have it.
 pub record IsHomomorphism {T U : Type 0} (one : Operations T) (other : Operations U)
     (Holds : T → Type 0) (to : T → U) : Type 0 where
   pub top : Holds one.top × (to one.top ≡ other.top)

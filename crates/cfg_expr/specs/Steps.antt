@@ -6,7 +6,7 @@ use Rattle.std.specs.{Cmp.Lexicographic.pointwise, Ordering.on}
 use Rattle.std.specs.List.{AllByRecursion, range_with_len}
 use Rattle.cfgx_grammar.specs.Answer.{HasOneTree}
 use Rattle.cfgx_grammar.specs.Tree.{Tree, Trees, asked, count}
-use Rattle.cfgx_parser.specs.nodes.Prefix.{list_func}
+use Rattle.cfgx_parser.specs.Order.{list_func}
 use Rattle.cfgx_parser.specs.declared.function.Func.TheVariants.{Not, All, Any}
 use Rattle.cfg_expr.specs.Fold.{Operations, answered, tree_map, tree_value}
 use Rattle.cfg_expr.specs.declared.expr.steps.Step.{Step}

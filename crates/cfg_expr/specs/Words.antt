@@ -1,4 +1,4 @@
--- Words of the crates below for contracts of callers of `parse` and `eval`.
+-- Words of this crate and of those below for contracts of callers of `parse` and `eval`.
 pub use Rattle.cfgx_syntax.specs.Stripping.{strip}
 pub use Rattle.cfgx_fields.specs.declared.text_key.TextKey.{TextKey}
 pub use Rattle.cfgx_grammar.specs.Answer.{Answers, HasOneTree}

@@ -9,6 +9,8 @@ use Rattle.std.specs.List.{AllByRecursion, Any, Contains, filter_map}
 use Rattle.std.specs.Str.{bytes_eq}
 use Rattle.cfgx_syntax.specs.Stripping.{strip}
 use Rattle.cfgx_syntax.specs.Error.{TextFault, fault_of}
+use Rattle.cfgx_syntax.specs.declared.error.Failure.{Failure}
+use Rattle.cfgx_syntax.specs.declared.error.Failure.TheVariants as failure
 use Rattle.cfgx_grammar.specs.Question.{Question}
 use Rattle.cfgx_grammar.specs.Tree.{Tree, asked}
 use Rattle.cfgx_grammar.specs.Grammar.{HasTree}
@@ -115,3 +117,8 @@ ReadsFacts Accepts facts (Ok read) = AreFacts Accepts facts read
 ReadsFacts Accepts facts (Err (facts_error.Faulty index error)) =
     IsFirstFaulty Accepts facts index (fault_of error)
 ReadsFacts Accepts facts (Err (facts_error.Memory error)) = Unit {0}
+
+-- the failure of reading facts, without the index of the fact
+abbrev pub failure_in : {A : Type 0} → FactsError A → Failure A
+failure_in (facts_error.Faulty index error) = failure.Parse error
+failure_in (facts_error.Memory error) = failure.Memory error

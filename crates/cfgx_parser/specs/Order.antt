@@ -1,10 +1,17 @@
--- The order and the equality of functions: first `not`, then `all`, then `any`, and those of one
--- name by the number of members. Source: the derived order of `Func` in the crate cfg-expr.
+-- Functions with the number of their members, their order and their equality: first `not`, then
+-- `all`, then `any`, and those of one name by the number of members.
+-- Source: `Func` of the crate cfg-expr and its derived order.
 use Rattle.std.specs.Prelude.{ℕ, Bool, nat_eq}
 use Rattle.std.specs.Ordering.{nat_cmp, on, then_cmp, eq_of_both}
 use Rattle.std.specs.declared.cmp.Ordering.{Ordering}
+use Rattle.cfgx_grammar.specs.Tree.{ListFunction}
 use Rattle.cfgx_parser.specs.declared.function.Func.{Func}
 use Rattle.cfgx_parser.specs.declared.function.Func.TheVariants.{Not, All, Any}
+
+-- the function of a list with `n` members
+abbrev pub list_func : ListFunction → ℕ → Func
+list_func ListFunction.all n = All n
+list_func ListFunction.any n = Any n
 
 -- the rank of a function's name
 abbrev pub func_rank : Func → ℕ

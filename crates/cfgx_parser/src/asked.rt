@@ -94,7 +94,6 @@ impl Asked {
 
     /// Returns the number of bits of a pointer or of an atomic, or 0 for the byte order `big` or 1
     /// for `little`. Every other predicate has no number, nor has an atomic of the width `ptr`.
-    #[inline(always)]
     pub fn number(self) -> Option<u32>
         ensures { result ≡ asked_number self }
     {

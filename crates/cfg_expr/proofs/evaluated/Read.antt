@@ -9,8 +9,8 @@ use Rattle.std.proofs.lemmas.Simd.{get_or-zip2, length-zip2, zip2_of_maps}
 use Rattle.std.specs.{List.filter_map}
 use Rattle.cfgx_grammar.specs.Tree.{ListFunction, Tree, Trees, is_function, is_leaf, count}
 use Rattle.cfg_expr.specs.Fold.{Operations, literal_value, tree_value, values_by}
-use Rattle.cfgx_parser.specs.Order.{func_members}
-use Rattle.cfgx_parser.specs.nodes.Prefix.{Node, list_func, prefix, prefix_each}
+use Rattle.cfgx_parser.specs.Order.{func_members, list_func}
+use Rattle.cfgx_parser.specs.nodes.Prefix.{Node, prefix, prefix_each}
 use Rattle.cfgx_parser.specs.nodes.Shape.{shape, shape_of}
 use Rattle.cfgx_parser.specs.declared.function.Func.{Func}
 use Rattle.cfgx_parser.specs.declared.function.Func.TheVariants.{Not}

@@ -10,7 +10,8 @@ use Rattle.std.specs.List.{AllByRecursion, range_with_len}
 use Rattle.cfgx_grammar.specs.Tree.{Tree, Trees, asked, asked_by, count, is_function, is_leaf}
 use Rattle.cfgx_parser.specs.declared.function.Func.TheVariants.{Not}
 use Rattle.cfgx_grammar.{specs.Answer.HasOneTree, proofs.Answering.only_tree}
-use Rattle.cfgx_parser.specs.nodes.Prefix.{Node, list_func, node_at, places, prefix}
+use Rattle.cfgx_parser.specs.nodes.Prefix.{Node, node_at, places, prefix}
+use Rattle.cfgx_parser.specs.Order.{list_func}
 use Rattle.cfgx_parser.specs.nodes.Shape.{shape, shape_of}
 use Rattle.cfgx_parser.specs.declared.nodes.ExprNode.{ExprNode}
 use Rattle.cfgx_parser.proofs.Places.{length-places}

@@ -287,8 +287,8 @@ fn begin<A: SmallAllocator>(
 
 /// Reads one condition after another in the same memory. A read allocates only for a faulty text
 /// and for one that needs more room than any before. There is one exception: the read that follows
-/// the first text with a node moves the parser's vectors to the heap, where they are cleared faster
-/// than inline. Contracts see whether it has read a text.
+/// the first text with a node may move the parser's vectors to the heap, where they are cleared
+/// faster than inline. Contracts see whether it has read a text.
 #[derive(Drop)]
 pub struct ConditionReader<'a, A: SmallAllocator = Global> {
     alloc: A,
@@ -327,9 +327,9 @@ impl<'a, A: SmallAllocator> ConditionReader<'a, A> {
     /// # Errors
     ///
     /// `Failure::Parse`: the first fault of the text, whose span lies in the text without an outer
-    /// `cfg( )`. `Failure::Memory`: the allocator refused memory, which a reader that has read
-    /// nothing needs for no condition of at most 4 bytes, counted without an outer `cfg( )`. After
-    /// either, the next text can be read.
+    /// `cfg( )`. `Failure::Memory`: the allocator refused memory. The first read of a reader does
+    /// not fail so if the text is a condition of at most 4 bytes, counted without an outer
+    /// `cfg( )`. After either error, the next text can be read.
     #[inline(always)]
     pub fn read(&mut self, text: &'a str) -> Result<Condition<'_>, Failure<A>>
         ensures answers { Answers (strip text.now) result }

@@ -1,5 +1,5 @@
-//! Laws on the values of all conditions, for proofs of callers. Each function does nothing, and its
-//! caller knows what it ensures.
+//! Laws on the order, the values, the steps and the located predicates of all conditions, for
+//! proofs of callers. Each function does nothing, and its caller knows what it ensures.
 ghost use Rattle.std.specs.Prelude.{◌≡◌, ℕ, ◌<◌, ◌≤◌, ◌+◌, ◌*◌, Bool, List, Option, Some};
 ghost use Rattle.std.specs.Prelude.{length, map};
 ghost use Rattle.std.specs.List.{AllByRecursion};

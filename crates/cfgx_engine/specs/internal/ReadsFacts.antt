@@ -56,8 +56,3 @@ AddsText unaskable text old new = (added : List Code)
 abbrev pub error_at : {A : Type 0} → ℕ → Failure A → FactsError A
 error_at index (failure.Parse error) = facts_error.Faulty index error
 error_at index (failure.Memory error) = facts_error.Memory error
-
--- the failure of reading facts, without the index of the fact
-abbrev pub failure_in : {A : Type 0} → FactsError A → Failure A
-failure_in (facts_error.Faulty index error) = failure.Parse error
-failure_in (facts_error.Memory error) = failure.Memory error

@@ -159,9 +159,9 @@ pub struct AuditError<A: Allocator = Global> {
 /// of condition `i` on target `j`. A target answers by its facts, and `otherwise` is the answer to
 /// a predicate that no fact names.
 ///
-/// Targets are taken in batches of 64, and the facts of each batch are sorted once. Then each
-/// condition is read once. For each batch, each predicate of the condition is looked up once, and
-/// the condition is evaluated once.
+/// Targets are taken in batches of 64, and the facts of each batch are merged once into one sorted
+/// list. Then each condition is read once. For each batch, each predicate of the condition is
+/// looked up once, and the condition is evaluated once.
 ///
 /// # Errors
 ///

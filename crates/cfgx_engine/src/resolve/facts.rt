@@ -84,7 +84,7 @@ impl<A: Allocator> FactsError<A> {
 
 /// Leaves out the index of the fact.
 impl<A: Allocator> From<FactsError<A>> for Failure<A> {
-    ghost use Rattle.cfgx_engine.specs.internal.ReadsFacts.{failure_in};
+    ghost use Rattle.cfgx_engine.specs.Facts.{failure_in};
 
     ghost from_gives = { λ error failure. failure ≡ failure_in error };
 

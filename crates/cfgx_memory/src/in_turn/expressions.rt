@@ -156,9 +156,14 @@ fn check_condition_eval_lanes<A: SmallAllocator>(alloc: A, condition: &Condition
     }
 }
 
+// Returns whether each item equals `item`.
+fn consists_of<T: PartialEq>(items: &[T], item: &T) -> bool {
+    items.iter().all(|one| one == item)
+}
+
 // Returns whether `filling` consists of `count` copies of `value`.
 fn repeats(filling: &[bool], value: bool, count: usize) -> bool {
-    filling.len() == count && !filling.contains(&!value)
+    filling.len() == count && consists_of(filling, &value)
 }
 
 // Returns whether `if_true` consists of `count` copies of true, and `if_false` of `count` copies of
@@ -205,11 +210,6 @@ fn check_condition_polar_fillings<A: SmallAllocator>(
 // The byte of a buffer that nothing was written to.
 const UNWRITTEN: u8 = 7;
 
-// Returns whether each byte of the buffer is `byte`.
-fn consists_of(buffer: &[u8], byte: u8) -> bool {
-    buffer.iter().all(|one| *one == byte)
-}
-
 // Checks the fillings of unknown answers: all true, and all false. Out of memory, nothing is
 // written.
 fn check_write_fillings<A: SmallAllocator>(alloc: A, condition: &Condition<'_>) -> Outcome {
@@ -226,7 +226,7 @@ fn check_write_fillings<A: SmallAllocator>(alloc: A, condition: &Condition<'_>) 
     } else {
         (UNWRITTEN, UNWRITTEN)
     };
-    if consists_of(if_true, one) && consists_of(if_false, other) {
+    if consists_of(if_true, &one) && consists_of(if_false, &other) {
         written.and(Ok(true))
     } else {
         Ok(false)

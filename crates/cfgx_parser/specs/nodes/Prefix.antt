@@ -2,10 +2,10 @@
 use Rattle.std.specs.Prelude.{ℕ, ◌+◌, Bool, List, [], ◌∷◌, ◌++◌, length, Option, Some, None}
 use Rattle.std.specs.List.{filter_map}
 use Rattle.cfgx_grammar.specs.Question.{Question}
-use Rattle.cfgx_grammar.specs.Tree.{ListFunction, Tree, Trees, asked, asked_by, count}
-use Rattle.cfgx_parser.specs.Located.{question_at}
+use Rattle.cfgx_grammar.specs.Tree.{Tree, Trees, asked, asked_by, count}
+use Rattle.cfgx_parser.specs.{Located.question_at, Order.list_func}
 use Rattle.cfgx_parser.specs.declared.function.Func.{Func}
-use Rattle.cfgx_parser.specs.declared.function.Func.TheVariants.{Not, All, Any}
+use Rattle.cfgx_parser.specs.declared.function.Func.TheVariants.{Not}
 use Rattle.cfgx_parser.specs.declared.nodes.ExprNode.{ExprNode}
 use Rattle.cfgx_parser.specs.declared.nodes.ExprNode.TheVariants as node
 use Rattle.cfgx_parser.specs.declared.located.LocatedPredicate.{LocatedPredicate}
@@ -43,11 +43,6 @@ abbrev pub node_at : List ℕ → ExprNode → Node Question
 node_at text (node.Fn func len) = Node.function func len
 node_at text (node.Predicate predicate) = Node.leaf (question_at text predicate)
 node_at text (node.Literal truth) = Node.literal truth
-
--- the `Func` of `all` or `any` with `n` members
-abbrev pub list_func : ListFunction → ℕ → Func
-list_func ListFunction.all n = All n
-list_func ListFunction.any n = Any n
 
 -- the node of a function, and then those of its members; it has the number of all these nodes
 abbrev pub headed : {X : Type 0} → Func → List (Node X) → List (Node X)

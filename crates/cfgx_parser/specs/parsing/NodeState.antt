@@ -10,7 +10,7 @@ use Rattle.cfgx_grammar.specs.parsing.Step as steps
 use Rattle.cfgx_parser.specs.nodes.Node.{Opening, Written, located, nothing, opening_of, with_leaf}
 use Rattle.cfgx_parser.specs.nodes.Node.{with_function}
 use Rattle.cfgx_parser.specs.nodes.Node.{with_list_ended, with_function_ended}
-use Rattle.cfgx_parser.specs.nodes.Prefix.{list_func}
+use Rattle.cfgx_parser.specs.Order.{list_func}
 use Rattle.cfgx_parser.specs.declared.function.Func.{Func}
 use Rattle.cfgx_parser.specs.declared.function.Func.TheVariants as func
 use Rattle.cfgx_parser.specs.declared.nodes.ExprNode.{ExprNode}

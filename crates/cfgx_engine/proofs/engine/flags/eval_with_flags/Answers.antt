@@ -3,12 +3,12 @@ use Rattle.std.proofs.Common.{◌≡◌, ℕ, List, ◌∷◌, map, ap, refl, ru
 use Rattle.std.proofs.{lemmas.Option.IfSome_then, lemmas.Result.err_from_is_err_and}
 use Rattle.cfg_expr.proofs.Chains.{Calls-AllZip}
 use Rattle.cfg_expr.specs.Predicate.{question_of}
-use Rattle.cfgx_engine.specs.Facts.{IsAnswer, IsFlag, ReadsFacts, texts_of}
+use Rattle.cfgx_engine.specs.Facts.{IsAnswer, IsFlag, ReadsFacts, fact_text, failure_in}
+use Rattle.cfgx_engine.specs.Facts.{texts_of}
 use Rattle.cfgx_engine.specs.declared.resolve.facts.Otherwise.TheVariants as otherwise
 use Rattle.cfgx_engine.specs.declared.resolve.facts.FactsError.{FactsError}
 use Rattle.cfgx_engine.specs.declared.resolve.facts.FactsError.TheVariants as facts_error
-use Rattle.cfgx_engine.specs.internal.{ReadsFacts.failure_in, Shows.Fails}
-use Rattle.cfgx_engine.specs.Facts.{fact_text}
+use Rattle.cfgx_engine.specs.internal.Shows.{Fails}
 use Rattle.cfgx_engine.specs.{Output.HasValueByFlags, Readings.GivesAll, Readings.ParsesAs}
 use Rattle.cfgx_engine.specs.Request.{texts}
 use Rattle.cfgx_engine.proofs.ReadingLemmas.{first_fails, later_fails}
