@@ -30,7 +30,7 @@ list_members ListFunction.any n odd = refl
 abbrev negated_in : Node Bool → Bool
 negated_in (Node.leaf odd) = odd
 negated_in (Node.literal truth) = false
-negated_in (Node.function func len) = false
+negated_in (Node.function func) = false
 
 module _ {X : Type 0} where
   abbrev negated : Bool → Tree X → List Bool

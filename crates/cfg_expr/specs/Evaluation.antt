@@ -48,8 +48,8 @@ pub record EvaluatesTo {F T E : Type 0} (logic : Operations T) (closure : Closur
       → IsValueBy logic text answer_to value)
   -- after an error the closure is as it was
   pub refused : OnErr result (after ≡ before)
-  -- for a text of at most 32 bytes there is no error
-  pub short : length text ≤ 32 → IsOk result
+  -- for a text of at most 66 bytes there is no error
+  pub short : length text ≤ 66 → IsOk result
 
 -- an iterator with these steps gives answers to the text's predicates from this state on
 abbrev pub GivesAnswersTo : {I T : Type 0} → (I → Option T → I → Type 0) → I → List ℕ → Type 0

@@ -49,7 +49,7 @@ pub struct Expression<A: Allocator = Global> {
     original: String<A>,
     /// In source order
     nodes: SmallVec<ExprNode, 5, A>,
-    /// The places of the predicates among the nodes, in the order in which they are asked
+    /// The indices of the predicates among the nodes, in the order in which they are asked
     places: SmallVec<usize, 4, A>,
 }
 
@@ -185,8 +185,9 @@ impl<A: SmallAllocator> Expression<A> {
         })
     }
 
-    /// Returns the predicates in the order in which they are asked: those of a list's functions,
-    /// one function after another, and then the list's own. Takes no memory.
+    /// Returns the predicates in the order in which they are asked, which is that of `cfg-expr`:
+    /// in each list first those of its functions, one function after another, and then its own.
+    /// So `all(a, any(b, not(c)), d)` asks c, b, a and d. Takes no memory.
     pub fn predicates(&self) -> Predicates<'_>
         ensures { AsksInOrder self.now result }
     {
@@ -195,15 +196,17 @@ impl<A: SmallAllocator> Expression<A> {
 
     /// Evaluates the condition over what `ep` answers to its predicates.
     ///
-    /// `ep` is asked each occurrence of a predicate once, in the order of `predicates`. The members
-    /// of `all` are joined by `and` to `top`, and those of `any` by `or` to `bottom`: from the last
-    /// back, first the predicates and literals of the list, and then its functions.
+    /// `ep` is asked each occurrence of a predicate once, in the order of `predicates`, before any
+    /// answers are joined. The members of `all` are joined by `and` to `top`, and those of `any` by
+    /// `or` to `bottom`, in the reverse of this order: from the last back, first the predicates and
+    /// literals of the list, and then its functions.
     ///
-    /// `ep` must be callable on each predicate, in every state in which earlier calls leave it.
+    /// The contract of `ep` must allow a call with each predicate, in every state in which earlier
+    /// calls leave `ep`.
     ///
     /// # Errors
     ///
-    /// `AllocError`: `alloc` refused memory, which happens only for a text of more than 32 bytes.
+    /// `AllocError`: `alloc` refused memory, which happens only for a text of more than 66 bytes.
     /// `ep` is as it was.
     pub fn eval<EP, T>(&self, alloc: A, ep: &mut EP) -> Result<T, AllocError>
     where
@@ -226,7 +229,7 @@ impl<A: SmallAllocator> Expression<A> {
     /// `AllocError`: `alloc` refused memory.
     pub fn decide(&self, alloc: A, answers: &[Option<bool>]) -> Result<Decision<A>, AllocError>
         requires { AreAnswersTo answers.now self.now }
-        // This also holds if the call is out of memory.
+        // This holds whatever the call returns.
         ensures exact { IsExactOverAll self.now }
         ensures decision { IfOk result (Decides self.now answers.now) }
     {
@@ -247,7 +250,7 @@ impl<A: SmallAllocator> Expression<A> {
         answers: &[Option<bool>],
     ) -> Result<Option<(Vec<bool, A>, Vec<bool, A>)>, AllocError>
         requires { AreAnswersTo answers.now self.now }
-        // This also holds if the call is out of memory.
+        // This holds whatever the call returns.
         ensures exact { IsExactOverAll self.now }
         ensures fillings { IfOk result (AreFillings self.now answers.now) }
     {
@@ -262,13 +265,13 @@ impl<A: SmallAllocator> Expression<A> {
     ///
     /// # Errors
     ///
-    /// `AllocError`: `alloc` refused memory, which happens only for a text of more than 32 bytes.
+    /// `AllocError`: `alloc` refused memory, which happens only for a text of more than 66 bytes.
     pub fn eval_lanes(&self, alloc: A, answers: &[Kleene64]) -> Result<Kleene64, AllocError>
         requires { AreAnswersTo answers.now self.now }
-        // This also holds if the call is out of memory.
+        // This holds whatever the call returns.
         ensures lanes { IsByLaneOverAll self.now }
         ensures value { IfOk result (IsValueInLanes self.now answers.now) }
-        ensures short { length self.now ≤ 32 → IsOk result }
+        ensures short { length self.now ≤ 66 → IsOk result }
     {
         self.condition().eval_lanes(alloc, answers)
     }

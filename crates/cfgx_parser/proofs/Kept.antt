@@ -1,5 +1,5 @@
 -- The nodes and places that are kept of an accepted text are those of its one tree.
-use Rattle.std.proofs.Common.{◌≡◌, ℕ, List, [], ◌∷◌, ◌++◌, length, Ok, sym, ap, ◌∙◌, arith}
+use Rattle.std.proofs.Common.{◌≡◌, ℕ, ◌+◌, ◌*◌, List, [], ◌∷◌, ◌++◌, length, Ok, sym, ap, ◌∙◌, arith}
 use Rattle.std.{proofs.lemmas.List.length-map, proofs.lemmas.List.append-nil}
 use Rattle.std.{specs.Prelude.slice_range, specs.Prelude.◌≤◌, specs.List.AllByRecursion}
 use Rattle.cfgx_syntax.{specs.Cut.CanBeCut, proofs.Values.value_inside, specs.Token.{Token, Spells}}
@@ -13,7 +13,7 @@ use Rattle.cfgx_parser.specs.nodes.Prefix.{places, predicates_in, prefix}
 use Rattle.cfgx_parser.specs.nodes.Node.{Written, nothing, with_list_ended}
 use Rattle.cfgx_parser.specs.nodes.WritesNodes.{IsPlaced, ArePlaced, WritesNodes}
 use Rattle.cfgx_parser.{specs.parsing.NodeState.ParserState, specs.declared.nodes.ExprNode.ExprNode}
-use Rattle.cfgx_parser.proofs.NodeSizes.{nodes-bytes}
+use Rattle.cfgx_parser.proofs.NodeSizes.{nodes-twice}
 use Rattle.cfgx_parser.proofs.spelled.Laws.{own, inner, node_laws, laws_written}
 use Rattle.cfgx_parser.proofs.spelled.WritingLemmas.{read_before}
 
@@ -82,5 +82,5 @@ module _ (text : List ℕ) (one : HasOneTokenList text) where
 
 pub few-nodes : {text : List ℕ} {nodes : List ExprNode} {asks : List ℕ}
     → KeepsOneTree text nodes asks
-    → length nodes ≤ length text
-few-nodes {text} {nodes} keeps = grind (arith, length-map, nodes-bytes)
+    → 2 * length nodes ≤ 1 + length text
+few-nodes {text} {nodes} keeps = grind (arith, length-map, nodes-twice)

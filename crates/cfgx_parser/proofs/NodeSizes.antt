@@ -188,15 +188,3 @@ nodes-twice text tree has =
       length-map has.items (λ (item : Item). item.token),
       items-bytes text 0 has.items Ending.blank (omega arith) has.are_items,
     )
-
--- and a text has no more nodes than bytes
-pub nodes-bytes : (text : List ℕ) (tree : Tree Question) → HasTree text tree
-    → length (prefix tree) ≤ length text
-nodes-bytes text tree has =
-    let tokens = map (λ (item : Item). item.token) has.items in
-    omega (
-      arith,
-      tree-words tree tokens has.spelled,
-      length-map has.items (λ (item : Item). item.token),
-      items-bytes text 0 has.items Ending.blank (omega arith) has.are_items,
-    )

@@ -35,7 +35,7 @@ impl From<Range<usize>> for Span {
     }
 }
 
-/// A predicate where it stands in its text. Spans are ranges of the bytes of this text.
+/// A predicate where it stands in a condition. Spans are ranges of the bytes of the stripped text.
 #[derive(Clone, Copy, Debug)]
 pub struct LocatedPredicate {
     /// What it asks

@@ -8,13 +8,8 @@ use crate::located::{LocatedPredicate, Span};
 /// A node of a condition. The nodes are in source order: a function stands before its members.
 #[derive(Clone, Copy, Debug)]
 pub enum ExprNode {
-    /// A function
-    Fn {
-        /// The function, with the number of its members
-        func: Func,
-        /// The number of nodes of its tree, this node included
-        len: usize,
-    },
+    /// A function, with the number of its members
+    Fn(Func),
     /// A predicate
     Predicate(LocatedPredicate),
     /// `true` or `false`

@@ -108,7 +108,7 @@ nodes_value logic nodes slots = option_and_then value_alone (read logic (items l
 abbrev pub slot_of : {T : Type 0} → Node T → Slot T
 slot_of (Node.leaf answer) = slot.Leaf answer
 slot_of (Node.literal truth) = slot.Empty
-slot_of (Node.function func len) = slot.Empty
+slot_of (Node.function func) = slot.Empty
 
 -- the slots hold the answers of the tree's predicates, each in the slot of its node
 pub record HoldsAnswers {T : Type 0} (nodes : List ExprNode) (slots : List (Slot T))

@@ -1,5 +1,5 @@
 //! Borrowed conditions, and a reader that reads one condition after another.
-ghost use Rattle.std.specs.Prelude.{◌≡◌, ◌≤◌, length, map, IfOk, IsOk, OnErr, OnOk};
+ghost use Rattle.std.specs.Prelude.{◌≡◌, ◌≤◌, ◌+◌, ◌*◌, length, map, IfOk, IsOk, OnErr, OnOk};
 ghost use Rattle.std.specs.Prelude.{false, true};
 ghost use Rattle.std.specs.Iterator.{IsFinite};
 ghost use Rattle.cfgx_syntax.specs.Stripping.{strip};
@@ -32,15 +32,15 @@ use std::alloc::{AllocError, Global};
 use std::marker::Model;
 use std::{fmt, mem};
 
-/// A condition that borrows its text and nodes from an `Expression` or a `ConditionReader`.
-/// Contracts see it as its stripped text.
+/// A condition that borrows its nodes from an `Expression` or a `ConditionReader`. The text is that
+/// of the `Expression`, or the one that was read. Contracts see it as its stripped text.
 #[derive(Drop)]
 pub struct Condition<'a> {
     /// The stripped text; the name is that of `cfg-expr`
     pub(super) original: &'a str,
     /// In source order
     pub(super) nodes: &'a [ExprNode],
-    /// The places of the predicates among the nodes, in the order in which they are asked
+    /// The indices of the predicates among the nodes, in the order in which they are asked
     pub(super) places: &'a [usize],
 }
 
@@ -63,11 +63,11 @@ impl<'a> Condition<'a> {
         self.original
     }
 
-    /// Returns the nodes of the tree, in source order. There are no more nodes than bytes.
+    /// Returns the nodes of the tree, in source order. `n` nodes take at least `2 * n - 1` bytes.
     pub(super) fn nodes(&self) -> &'a [ExprNode]
         ensures nodes { (one : HasOneTree self.now)
             × (map (node_at self.now) result.now ≡ prefix one.tree) }
-        ensures few { length result.now ≤ length self.now }
+        ensures few { 2 * length result.now ≤ 1 + length self.now }
     {
         self.nodes
     }
@@ -101,7 +101,7 @@ impl<'a> Condition<'a> {
     ///
     /// # Errors
     ///
-    /// `AllocError`: `alloc` refused memory, which happens only for a text of more than 32 bytes.
+    /// `AllocError`: `alloc` refused memory, which happens only for a text of more than 66 bytes.
     /// `ep` is as it was.
     pub fn eval<EP, T, A>(&self, alloc: A, ep: &mut EP) -> Result<T, AllocError>
     where
@@ -115,11 +115,11 @@ impl<'a> Condition<'a> {
     }
 
     /// Evaluates the condition over the answers that `answers` gives, one for each predicate in the
-    /// order of `predicates`. Each answer is taken when its turn comes.
+    /// order of `predicates`. All answers are taken before any are joined.
     ///
     /// # Errors
     ///
-    /// `AllocError`: `alloc` refused memory, which happens only for a text of more than 32 bytes.
+    /// `AllocError`: `alloc` refused memory, which happens only for a text of more than 66 bytes.
     pub fn eval_over<T, I, A>(&self, alloc: A, answers: I) -> Result<T, AllocError>
     where
         T: Logic,
@@ -128,10 +128,10 @@ impl<'a> Condition<'a> {
         requires can { I.can_next answers }
         requires ends { IsFinite (I.remaining answers) }
         requires given { GivesAnswersTo I.next_gives answers self.now }
-        // This also holds if the call is out of memory.
+        // This holds whatever the call returns.
         ensures one { HasOneTree self.now }
         ensures value { IfOk result (IsValueOver T.Logic I.next_gives answers self.now) }
-        ensures short { length self.now ≤ 32 → IsOk result }
+        ensures short { length self.now ≤ 66 → IsOk result }
     {
         evaluating::eval_over(alloc, self, answers)
     }
@@ -150,7 +150,7 @@ impl<'a> Condition<'a> {
         decision: &mut Decision<A>,
     ) -> Result<(), AllocError>
         requires { AreAnswersTo answers.now self.now }
-        // This also holds if the call is out of memory.
+        // This holds whatever the call returns.
         ensures exact { IsExactOverAll self.now }
         ensures decision { OnOk result (Decides self.now answers.now decision.new) }
         ensures refused { OnErr result (held decision.new ≡ held decision.old) }
@@ -170,7 +170,7 @@ impl<'a> Condition<'a> {
         answers: &[Option<bool>],
     ) -> Result<Option<(Vec<bool, A>, Vec<bool, A>)>, AllocError>
         requires { AreAnswersTo answers.now self.now }
-        // This also holds if the call is out of memory.
+        // This holds whatever the call returns.
         ensures exact { IsExactOverAll self.now }
         ensures fillings { IfOk result (AreFillings self.now answers.now) }
     {
@@ -200,7 +200,7 @@ impl<'a> Condition<'a> {
         requires answers { AreAnswersTo answers.now self.now }
         requires true_room { length if_true.old ≡ length answers.now }
         requires false_room { length if_false.old ≡ length answers.now }
-        // This also holds if the call is out of memory.
+        // This holds whatever the call returns.
         ensures exact { IsExactOverAll self.now }
         ensures fillings { OnOk result
             (AreFillingBytes self.now answers.now if_true.new if_false.new) }
@@ -214,18 +214,19 @@ impl<'a> Condition<'a> {
     ///
     /// # Errors
     ///
-    /// `AllocError`: `alloc` refused memory, which happens only for a text of more than 32 bytes.
+    /// `AllocError`: `alloc` refused memory, which happens only for a text of more than 66 bytes.
     pub fn eval_lanes<A: SmallAllocator>(
         &self,
         alloc: A,
         answers: &[Kleene64],
     ) -> Result<Kleene64, AllocError>
         requires { AreAnswersTo answers.now self.now }
-        // This also holds if the call is out of memory.
+        // This holds whatever the call returns.
         ensures lanes { IsByLaneOverAll self.now }
         ensures value { IfOk result (IsValueInLanes self.now answers.now) }
-        ensures short { length self.now ≤ 32 → IsOk result }
+        ensures short { length self.now ≤ 66 → IsOk result }
     {
+        // No lane of an answer is both true and false.
         prove!(are_disjoint(answers));
         evaluating::eval_over_slice(alloc, self, answers)
     }
@@ -293,7 +294,7 @@ fn begin<A: SmallAllocator>(
 pub struct ConditionReader<'a, A: SmallAllocator = Global> {
     alloc: A,
     parser: Parser<'a, A>,
-    /// Whether the parser has to forget a text before it reads the next
+    /// Whether `read` was called, so the parser has to be cleared before it reads the next text
     has_read: bool,
 }
 

@@ -1,11 +1,18 @@
-//! Evaluation of a condition. Each answer goes into the slot of its node. Then the nodes are read
-//! from the last to the first, with one stack: a leaf is pushed, and a function replaces the values
-//! of its members by its own. The only entry left is the value of the condition.
+//! Evaluation of a condition in any `Logic`. In those of `Option<bool>` and of the 64 lanes of
+//! `Kleene64`, an answer may be unknown: they are Kleene's strong logic.
+//!
+//! Each answer goes into the slot of its node. Then the nodes are read from the last to the first,
+//! with one stack: a leaf is pushed, and a function, whose node has the number of its members,
+//! replaces the values of its members by its own. The only entry left is the value of the
+//! condition.
 //!
 //! Unread answers occupy the front of the slots, and the stack occupies the back. They never
-//! overlap, since each node has one slot and pushes one entry. The nodes are in the order of the
-//! text. Predicates are asked in another order: for each function, first those below its member
-//! functions, and then those that are its own members.
+//! overlap, since each node has one slot and pushes one entry.
+//!
+//! The nodes are in the order of the text. Predicates are asked in the order of `cfg-expr`: for
+//! each function, first those below its member functions, one function after another, and then
+//! those that are its own members. So `all(a, any(b, not(c)), d)` asks c, b, a and d. Members are
+//! joined in the reverse of this order.
 ghost use Rattle.std.specs.Prelude.{◌≡◌, ◌<◌, ◌≤◌, ◌+◌, [], ◌∷◌, ℕ, List, None, Some, IfOk, IsSome};
 ghost use Rattle.std.specs.Prelude.{IsOk, MatchOption, OnErr, OnOk, drop, get_or, length, set};
 ghost use Rattle.std.specs.Prelude.{take};
@@ -36,12 +43,12 @@ use std::mem;
 /// An unread answer, or an entry of the stack, which is the value of a subtree.
 #[derive(Default, Drop)]
 pub(crate) enum Slot<T> {
-    /// There is no answer, or it was read
+    /// Nothing: no answer was put here, or what stood here was taken
     #[default]
     Empty,
     /// The answer to a predicate, or the value of a literal
     Leaf(T),
-    /// The value of a function
+    /// The value of a function, which is joined after all leaves of its list
     Function(T),
 }
 
@@ -201,7 +208,7 @@ impl<T: Logic> Stack<'_, T> {
     }
 
     /// Reads `node`, whose slot is at `place`: pushes its answer or its value, or applies it.
-    /// Returns `None` if a function finds too few members.
+    /// Returns `None` if a function finds too few members, or if the member of `not` has no value.
     fn read(&mut self, node: &ExprNode, place: usize) -> Option<()>
         requires { (place < self.old.begin) × (self.old.begin ≤ length self.old.slots.now) }
         ensures entries { let read = item T.Logic (shape node.now)
@@ -218,7 +225,7 @@ impl<T: Logic> Stack<'_, T> {
                 self.push(answer);
             }
             ExprNode::Literal(truth) => self.push(Slot::Leaf(literal_value(*truth))),
-            ExprNode::Fn { func, .. } => self.apply(*func)?,
+            ExprNode::Fn(func) => self.apply(*func)?,
         }
         Some(())
     }
@@ -251,8 +258,8 @@ fn eval_nodes<T: Logic>(nodes: &[ExprNode], slots: &mut [Slot<T>]) -> Option<T>
 }
 
 /// Pushes `count` empty slots to `slots`, which is new. Up to 33 are inline and take no memory.
-/// `eval_steps` promises this for 33 steps. `eval` promises it for a text of at most 32 bytes,
-/// which has at most 32 nodes, since a text has no more nodes than bytes.
+/// `eval_steps` promises this for 33 steps. `eval` promises it for a text of at most 66 bytes: `n`
+/// nodes take at least `2 * n - 1` bytes, so this one has at most 33.
 // A new vector that was returned in a `Result` would be copied out of it.
 pub(super) fn push_empty_slots<T: Logic, A: Allocator>(
     slots: &mut SmallVec<Slot<T>, 33, &A>,
@@ -340,7 +347,7 @@ where
     ensures value { IfOk result (λ value.
         Evaluates T.Logic EP.FnMut condition.now ep.old value ep.new) }
     ensures refused { OnErr result (ep.new ≡ ep.old) }
-    ensures short { length condition.now ≤ 32 → IsOk result }
+    ensures short { length condition.now ≤ 66 → IsOk result }
 {
     let nodes = condition.nodes();
     let mut slots = SmallVec::new(&alloc);
@@ -371,7 +378,7 @@ where
     requires given { GivesAnswersTo I.next_gives answers condition.now }
     ensures one { HasOneTree condition.now }
     ensures value { IfOk result (IsValueOver T.Logic I.next_gives answers condition.now) }
-    ensures short { length condition.now ≤ 32 → IsOk result }
+    ensures short { length condition.now ≤ 66 → IsOk result }
 {
     let nodes = condition.nodes();
     let mut slots = SmallVec::new(&alloc);
@@ -395,7 +402,7 @@ where
     ensures one { HasOneTree condition.now }
     ensures value { IfOk result (λ value. (one : HasOneTree condition.now)
         × (value ≡ tree_fold T.Logic one.tree answers.now)) }
-    ensures short { length condition.now ≤ 32 → IsOk result }
+    ensures short { length condition.now ≤ 66 → IsOk result }
 {
     eval_over(alloc, condition, answers.iter().copied())
 }

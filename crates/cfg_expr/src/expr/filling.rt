@@ -5,15 +5,18 @@
 //!
 //! Both fillings keep the known answers. For an unknown answer, the first filling has true if its
 //! predicate is below an even number of `not`, and false otherwise. The second filling has the
-//! opposite value.
+//! opposite value. The condition never turns false when an answer below an even number of `not`
+//! turns true, or one below an odd number turns false. So it is true with the first filling if it
+//! is true with any, and false with the second if it is false with any.
 //!
 //! One pass over the nodes makes the list `negated`, which says of each node whether it is a
-//! predicate below an odd number of `not`. The stack `pending` has an entry for each subtree that
-//! the pass has not reached, but whose parent it has reached. The next one is on top. An entry is
-//! true if its subtree is below an odd number of `not`.
+//! predicate below an odd number of `not`. The stack `pending` begins with an entry for the whole
+//! condition. Later it has one for each subtree that the pass has not reached, but whose parent it
+//! has reached. The next one is on top. An entry is true if its subtree is below an odd number of
+//! `not`.
 //!
 //! Each subtree has a node of its own, so there are never more entries than nodes. Both lists hold
-//! 33 entries inline, so up to 33 nodes take no memory.
+//! 33 entries inline, so for up to 33 nodes the lists take no memory.
 ghost use Rattle.std.specs.Prelude.{◌≡◌, ◌≤◌, ◌<◌, ◌+◌, ◌++◌, ◌∷◌, true, false, length};
 ghost use Rattle.std.specs.Prelude.{map, replicate, reverse, unwrap_or, List, OnErr, OnOk};
 ghost use Rattle.std.specs.Prelude.{vec_capacity};
@@ -62,7 +65,7 @@ fn pass_node<A: SmallAllocator>(
     // By the `requires`, there is an entry.
     let is_negated = pending.pop().unwrap();
     match node {
-        ExprNode::Fn { func, .. } => {
+        ExprNode::Fn(func) => {
             negated.push(false)?;
             let is_not = matches!(func, Func::Not);
             push_repeated(is_negated != is_not, func.members(), pending)?;

@@ -7,7 +7,7 @@ use std::fmt;
 use std::marker::Model;
 
 /// The predicates of a condition where they stand, in the order in which they are asked. They have
-/// the spans of their texts, and `Predicates` has the texts.
+/// the spans of their keys and values, and `Predicates` has the texts.
 #[derive(Drop)]
 pub struct LocatedPredicates<'a> {
     pub(super) nodes: &'a [ExprNode],

@@ -139,8 +139,8 @@ impl<'a> TargetPredicate<'a> {
 }
 
 impl<A: Allocator> TargetPredicate<'_, A> {
-    /// Returns what is asked, and the text that is asked for, which is empty for a number or a
-    /// byte order.
+    /// Returns what is asked, and the text that is asked for, which is empty for a byte order, a
+    /// number of bits and the `ptr` of `target_has_atomic`.
     pub(super) fn parts(&self) -> (AskedTarget, &str)
         ensures asked { result.0 ≡ without_text (target_of self.now) }
         ensures text { result.1.now ≡ target_text (target_of self.now) }

@@ -179,7 +179,7 @@ pub fn audit_facts<A: SmallAllocator>(
         (texts conditions.now)) }
     ensures err { IfErr result (λ error. IfSome (failure_of error.failure)
         (IsFirstFault (texts conditions.now) error.index)) }
-    // This also holds if the call is out of memory.
+    // This holds whatever the call returns.
     ensures index { IfErr result (λ error. FollowsConditions (texts conditions.now) error.index) }
 {
     let mut values = Vec::new(alloc);

@@ -223,7 +223,7 @@ fn writes_steps<A: SmallAllocator>(
 const TEXT: &str = "all(a, any(b), feature = \"a feature with a long name\")";
 
 /// A check, and the text of its expression. The first five are compared with `TEXT`, what is read
-/// again is read after `LONG`, what is evaluated has 31 or 32 bytes, and `steps` makes 33 steps.
+/// again is read after `LONG`, what is evaluated has 66 bytes, and `steps` makes 33 steps.
 /// Steps are written for any condition.
 pub(super) const CONDITIONS: &str = r#"
 text | all(a, any(b), feature = "a feature with a long name")
@@ -237,21 +237,21 @@ read again | any()
 simulator alone | target_abi = "sim"
 no target | all(unix, a)
 spelling | target_has_atomic = "+00128"
-eval | any(a,a,a,a,a,a,a,a,a,a,a,a,a,a)
-eval | not(not(not(not(not(not(a))))))
-eval | all(all(),all(),all(),all(),a,a)
-eval_lanes | any(a,a,a,a,a,a,a,a,a,a,a,a,a,a)
-eval_lanes | not(not(not(not(not(not(a))))))
-eval_lanes | all(all(),all(),all(),all(),a,a)
-Condition::eval | any(a,a,a,a,a,a,a,a,a,a,a,a,a,a)
-Condition::eval | not(not(not(not(not(not(a))))))
-Condition::eval | all(all(),all(),all(),all(),a,a)
-Condition::eval_lanes | any(a,a,a,a,a,a,a,a,a,a,a,a,a,a)
-Condition::eval_lanes | not(not(not(not(not(not(a))))))
-Condition::eval_lanes | all(all(),all(),all(),all(),a,a)
-eval_over | any(a,a,a,a,a,a,a,a,a,a,a,a,a,a)
-eval_over | not(not(not(not(not(not(a))))))
-eval_over | all(all(),all(),all(),all(),a,a)
+eval | any(~a,~30~a)
+eval | ~not(~13~a~)~13~
+eval | all(~all(),~10~a)
+eval_lanes | any(~a,~30~a)
+eval_lanes | ~not(~13~a~)~13~
+eval_lanes | all(~all(),~10~a)
+Condition::eval | any(~a,~30~a)
+Condition::eval | ~not(~13~a~)~13~
+Condition::eval | all(~all(),~10~a)
+Condition::eval_lanes | any(~a,~30~a)
+Condition::eval_lanes | ~not(~13~a~)~13~
+Condition::eval_lanes | all(~all(),~10~a)
+eval_over | any(~a,~30~a)
+eval_over | ~not(~13~a~)~13~
+eval_over | all(~all(),~10~a)
 steps | any(~a,~32~)
 steps | ~not(~32~a~)~32~
 write_steps | a

@@ -11,12 +11,12 @@ pub data Shape : Type 0 where
   function : Func → Shape
 
 abbrev pub shape : ExprNode → Shape
-shape (node.Fn func len) = Shape.function func
+shape (node.Fn func) = Shape.function func
 shape (node.Predicate inner) = Shape.predicate
 shape (node.Literal truth) = Shape.literal truth
 
 -- the shape of a node of a tree
 abbrev pub shape_of : {X : Type 0} → Node X → Shape
-shape_of (Node.function func len) = Shape.function func
+shape_of (Node.function func) = Shape.function func
 shape_of (Node.leaf x) = Shape.predicate
 shape_of (Node.literal truth) = Shape.literal truth

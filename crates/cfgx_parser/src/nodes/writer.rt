@@ -23,8 +23,8 @@ const BYTES_PER_NODE: usize = 8;
 /// The fewest nodes for which room is added when a text first outgrows the room there is.
 const MIN_CAPACITY: usize = 3;
 
-/// The most nodes for which room is added then. They take 168 KiB: a block of that size grows where
-/// it stands, and is not copied.
+/// The most nodes for which room is added then. They take 168 KiB: most allocators grow a block of
+/// that size where it stands, and do not copy it.
 const MAX_CAPACITY: usize = 3584;
 
 /// The capacity that `move_to_heap` reserves for each vector. It is greater than each inline
@@ -53,7 +53,7 @@ pub(crate) struct NodeWriter<A: SmallAllocator> {
     first_capacity: usize,
     /// Both counts are the lengths of their vectors
     ghost counted: { (node_count ≡ length nodes.items) × (waiting_count ≡ length waiting.items) },
-    /// Each place is that of a node of its own
+    /// There are no more places than nodes
     ghost few: { length waiting.items + length places.items ≤ length nodes.items },
 }
 
@@ -98,7 +98,8 @@ impl<A: SmallAllocator> NodeWriter<A> {
     }
 
     /// Whether the vectors should move to the heap: a node was written since the last restart, and
-    /// `waiting` is inline. This decides about cost alone, so one vector stands for all three.
+    /// `waiting` is inline. This decides about cost alone, so `waiting` stands for all vectors, the
+    /// `func_stack` of the parser included.
     pub(crate) fn should_move_to_heap(&self) -> bool {
         self.node_count > 0 && !self.waiting.spilled()
     }
@@ -175,10 +176,7 @@ impl<A: SmallAllocator> NodeWriter<A> {
         ensures kept { KeepsNodes (written_of self.old) (written_of self.new) }
         ensures room { OnErr result (5 ≤ length (written_of self.old).nodes) }
     {
-        let node = self.push_node(ExprNode::Fn {
-            func: Func::Not,
-            len: 0,
-        })?;
+        let node = self.push_node(ExprNode::Fn(Func::Not))?;
         let waiting = self.waiting_count;
         Ok(Opening { node, waiting })
     }
@@ -241,8 +239,7 @@ impl<A: SmallAllocator> NodeWriter<A> {
     {
         // Always true: the node was written when the function began.
         if place < self.node_count {
-            let len = self.node_count - place;
-            self.nodes[place] = ExprNode::Fn { func, len };
+            self.nodes[place] = ExprNode::Fn(func);
         }
     }
 

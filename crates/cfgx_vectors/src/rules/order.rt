@@ -40,12 +40,25 @@ pub(super) fn calls_text(alloc: Global, text: &str) -> Result<String, Failure> {
     Ok(texts_of_calls(alloc, expression.predicates())?)
 }
 
-// Returns the number of nodes of the tree that begins with `node`.
-fn tree_length(node: &ExprNode) -> usize {
+// Returns the number of members of a node.
+fn member_count(node: &ExprNode) -> usize {
     match node {
-        ExprNode::Fn { len, .. } => *len,
-        ExprNode::Predicate(_) | ExprNode::Literal(_) => 1,
+        ExprNode::Fn(func) => func.members(),
+        ExprNode::Predicate(_) | ExprNode::Literal(_) => 0,
     }
+}
+
+// Returns the number of nodes of the tree that begins with the first node, or 0 if some are missing.
+fn tree_length(nodes: &[ExprNode]) -> usize {
+    // How many trees are still to be read
+    let mut left: usize = 1;
+    for (place, node) in nodes.iter().enumerate() {
+        left = left.saturating_sub(1).saturating_add(member_count(node));
+        if left == 0 {
+            return place.saturating_add(1);
+        }
+    }
+    0
 }
 
 // Pushes a number, with a space before it unless it is the first.
@@ -63,8 +76,8 @@ fn push_numbers(
     nodes: &[ExprNode],
     places: &[usize],
 ) -> Result<(), AllocError> {
-    for node in nodes {
-        push_number(alloc, text, tree_length(node))?;
+    for place in 0..nodes.len() {
+        push_number(alloc, text, tree_length(&nodes[place..]))?;
     }
     text.push_str(";")?;
     for place in places {

@@ -1,6 +1,6 @@
 -- There is one step for each node.
 use Rattle.std.proofs.Common.{arith}
-use Rattle.cfgx_parser.proofs.NodeSizes.{nodes-bytes, nodes-twice, tree-opens}
+use Rattle.cfgx_parser.proofs.NodeSizes.{nodes-twice, tree-opens}
 use Rattle.cfg_expr.proofs.stepped.Numbers.{length-steps}
 use Rattle.cfg_expr.proofs.expr.laws.steps_are_few.Goals as goal
 
@@ -14,4 +14,4 @@ returns-clause-twice c = λ text tree has.
 
 pub returns-clause-by_bytes : goal.returns-clause-by_bytes
 returns-clause-by_bytes c = λ text tree has.
-    omega (arith, nodes-bytes text tree has, length-steps tree)
+    omega (arith, nodes-twice text tree has, length-steps tree)
