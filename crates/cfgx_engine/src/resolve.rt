@@ -29,12 +29,22 @@ use std::mem::swap;
 
 /// A section of a manifest, which counts if its condition is true.
 #[derive_where(Debug)]
-#[derive(Drop)]
 pub struct Section<A: SmallAllocator = Global> {
     /// The name
     pub name: String<A>,
     /// The condition
     pub condition: Expression<A>,
+}
+
+// With a derived `Drop` each caller would have to show by hand what dropping an `Expression` needs
+// of its allocator, which a `SmallAllocator` has.
+impl<A: SmallAllocator> Drop for Section<A> {
+    fn drop(self) {
+        let Section {
+            name: _name,
+            condition: _condition,
+        } = self;
+    }
 }
 
 /// Whether a section counts on a target. Each occurrence of a predicate has an answer of its own.
