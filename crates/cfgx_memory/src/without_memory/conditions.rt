@@ -238,19 +238,19 @@ simulator alone | target_abi = "sim"
 no target | all(unix, a)
 spelling | target_has_atomic = "+00128"
 eval | any(~a,~30~a)
-eval | ~not(~13~a~)~13~
+eval | ~not(~12~abcdef~)~12~
 eval | all(~all(),~10~a)
 eval_lanes | any(~a,~30~a)
-eval_lanes | ~not(~13~a~)~13~
+eval_lanes | ~not(~12~abcdef~)~12~
 eval_lanes | all(~all(),~10~a)
 Condition::eval | any(~a,~30~a)
-Condition::eval | ~not(~13~a~)~13~
+Condition::eval | ~not(~12~abcdef~)~12~
 Condition::eval | all(~all(),~10~a)
 Condition::eval_lanes | any(~a,~30~a)
-Condition::eval_lanes | ~not(~13~a~)~13~
+Condition::eval_lanes | ~not(~12~abcdef~)~12~
 Condition::eval_lanes | all(~all(),~10~a)
 eval_over | any(~a,~30~a)
-eval_over | ~not(~13~a~)~13~
+eval_over | ~not(~12~abcdef~)~12~
 eval_over | all(~all(),~10~a)
 steps | any(~a,~32~)
 steps | ~not(~32~a~)~32~
