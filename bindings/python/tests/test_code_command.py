@@ -226,6 +226,41 @@ class Formats(Made):
                          ("faulty", None, "MEMBERS"))
         self.assertEqual(found["files"][0]["groups"][0]["two"]["values"], ["yes"])
 
+    def json_file(self, *words):
+        """Returns what JSON has of the only file: what its conditions have around them, and what is
+        told of that."""
+        [file] = json.loads(self.command("--format", "json", *words)[1])["files"]
+        return ([(one["condition"], one["guard"]) for one in file["conditions"]],
+                [(one["condition"], one["number"], one["outer"]) for one in file["guards"]])
+
+    def test_guards_of_json(self):
+        self.write("one.rs", "#[cfg(a)] mod m { #[cfg(b)] fn f() { cfg!(c); }"
+                   " cfg_if! { if #[cfg(d)] {} else if #[cfg(e)] { cfg!(f); } } }")
+        self.assertEqual(self.json_file(), (
+            [("a", None), ("b", 0), ("c", 1), ("d", 0), ("e", 2), ("f", 3)],
+            [("a", 0, None), ("b", 1, 0), ("not(d)", 3, 0), ("e", 4, 2)],
+        ))
+        self.write("one.rs", "#[cfg(x)] fn f() {} #[cfg(unix)] mod m { #[cfg(a)] fn g() {} }"
+                   " #[cfg(windows)] mod n { #[cfg(windows)] fn h() {} }")
+        self.assertEqual(self.json_file("--only", "platforms"),
+                         ([("unix", None), ("windows", None)], []))
+        self.assertEqual(self.json_file("--only", "depends"),
+                         ([("x", None), ("a", 0)], [("unix", 1, None)]))
+
+    def test_guards_that_were_not_read(self):
+        self.write("one.rs", "macro_rules! m { () => { #[cfg($x)] fn f() { cfg!(a); } } }")
+        self.assertEqual(self.json_file(), ([(None, None), ("a", 0)], [(None, 0, None)]))
+
+    def test_long_conditions_around_many(self):
+        name, many = "x" * 60_000, "#[cfg(any())] impl A {}\n" * 300
+        self.write("lib.rs", f"#[cfg(all({name}, {name}))] mod m {{ {many} }}"
+                   f" #[cfg({name})] mod n;")
+        self.write("n.rs", many)
+        for form in ("text", "json", "tsv", "sarif"):
+            words = ("--format", form, "--target", "x86_64-unknown-linux-gnu")
+            printed = self.command(*words)[1]
+            self.assertTrue(10_000 < len(printed) < 1_000_000, (form, len(printed)))
+
     def test_tsv(self):
         self.write("one.rs", CODE)
         lines = self.command("--format", "tsv")[1].splitlines()

@@ -1,5 +1,5 @@
 """What is found in a report."""
-from typing import Iterator, NamedTuple, Tuple
+from typing import Iterator, NamedTuple, Optional, Tuple
 
 from .._terminal import shown
 from ._model import Condition, Group, Place
@@ -7,7 +7,7 @@ from ._names import FAULTY, NEVER, OVERLAP
 from ._report import File, Report
 from ._values import GroupRow, Row, Verdict
 
-# How many characters are told of the condition around another one.
+# How many characters are told of a condition around another one.
 MOST_TOLD = 200
 
 
@@ -75,8 +75,15 @@ def around(one: Condition) -> str:
     """Returns what tells the condition around another one, or nothing."""
     if one.guard is None:
         return ""
-    text = one.guard.text or "what was not read"
-    return f", inside of {text if len(text) <= MOST_TOLD else f'{text[:MOST_TOLD]}..'}"
+    return f", inside of {shortened(one.guard.text)}"
+
+
+def shortened(text: Optional[str]) -> str:
+    """Returns what is told of a condition around another one: its text, or the beginning of a long
+    one."""
+    if text is None:
+        return "what was not read"
+    return text if len(text) <= MOST_TOLD else f"{text[:MOST_TOLD]}.."
 
 
 def name_of(group: Group) -> str:

@@ -19,8 +19,6 @@ from ._values import Answer, GroupRow, Row
 VERSION = 1
 NAME = "cfgx-code"
 WORDS = {True: "yes", False: "no", None: "unknown"}
-# How many guards around a condition are told.
-MOST_GUARDS = 64
 RULES = (
     Rule(NEVER, "The condition is true on none of the targets, whatever is set.", Level.WARNING),
     Rule(FAULTY, "rustc refuses the condition.", Level.ERROR),
@@ -30,6 +28,24 @@ LEVELS = {rule.name: rule.level for rule in RULES}
 HEAD = ("path", "line", "column", "form", "is", "yes", "no", "unknown", "within", "condition")
 # What makes the words for the values of an answer.
 Answered = Callable[[Tuple[Optional[bool], ...]], List[str]]
+
+
+class Guards:
+    """The guards of a file that are told. Each is told once, since many conditions share it."""
+
+    def __init__(self) -> None:
+        self.entries: List[Dict[str, Any]] = []
+        self._places: Dict[int, int] = {}
+
+    def place_of(self, guard: Optional[Guard]) -> Optional[int]:
+        """Returns the place of a guard among those that are told, behind those around it."""
+        around: Iterable[Guard] = [] if guard is None else guard.all
+        new = list(itertools.takewhile(lambda one: id(one) not in self._places, around))
+        for one in reversed(new):
+            outer = None if one.outer is None else self._places[id(one.outer)]
+            self._places[id(one)] = len(self.entries)
+            self.entries.append({"condition": one.text, "number": one.number, "outer": outer})
+        return None if guard is None else self._places[id(guard)]
 
 
 def json_of(report: Report, only: Sequence[str], is_summary: bool) -> Iterator[str]:
@@ -58,15 +74,17 @@ def file_entry(file: File, only: Sequence[str], answered: Answered) -> Dict[str,
     unread: Optional[Dict[str, Any]] = None
     if file.code.unread is not None and file.code.unread_from is not None:
         unread = {"message": file.code.unread, **place_members(file.code.unread_from)}
+    guards, rows = Guards(), chosen_rows(file, frozenset(only))
     return {
         "path": file.path, "context": list(file.context), "unread": unread,
-        "conditions": [row_entry(row, answered) for row in chosen_rows(file, frozenset(only))],
+        "conditions": [row_entry(row, guards, answered) for row in rows],
+        "guards": guards.entries,
         "groups": [group_entry(row, answered) for row in file.groups],
     }
 
 
-def row_entry(row: Row, answered: Answered) -> Dict[str, Any]:
-    """Returns the object of a condition."""
+def row_entry(row: Row, guards: Guards, answered: Answered) -> Dict[str, Any]:
+    """Returns the object of a condition, and adds its guards to those of the file."""
     one = row.condition
     problem: Optional[Dict[str, Any]] = None
     if one.problem is not None:
@@ -76,14 +94,8 @@ def row_entry(row: Row, answered: Answered) -> Dict[str, Any]:
         "number": one.number, "form": one.form.value, "inner": one.is_inner,
         **place_members(one.place), "condition": one.text, "is": choice_of(row.verdict),
         "within": row.within, "partial": row.is_partial, "problem": problem,
-        "guards": list(guard_entries(one.guard)), **answer_members(row.answer, answered),
+        "guard": guards.place_of(one.guard), **answer_members(row.answer, answered),
     }
-
-
-def guard_entries(guard: Optional[Guard]) -> Iterator[Dict[str, Any]]:
-    """Yields the objects of guards, from the inside out."""
-    for one in itertools.islice([] if guard is None else guard.all, MOST_GUARDS):
-        yield {"condition": one.text, "number": one.number}
 
 
 def group_entry(row: GroupRow, answered: Answered) -> Dict[str, Any]:

@@ -4,8 +4,9 @@ import itertools
 from typing import Dict, FrozenSet, Iterable, Iterator, List, Optional, Sequence, Tuple
 
 from .._terminal import Colour, cells_of, coloured, shown, wrapped
+from ..manifest._once import Once
 from ..manifest._table import examples_of
-from ._findings import name_of
+from ._findings import name_of, shortened
 from ._lexer import MARK
 from ._model import Guard, Place
 from ._names import CHOICES, NONE, TWO
@@ -69,6 +70,8 @@ class Printer:
         self._only = frozenset(only)
         self._width = width
         self._has_colours = has_colours
+        # What is told of the conditions around a file, which is the same for all that stand in it.
+        self._context_of: Once[Tuple[str, ...], str] = Once(lambda texts: shortened(all_of(texts)))
 
     def lines(self) -> Iterator[str]:
         """Yields the lines of all conditions and groups that were chosen, and a last one that
@@ -114,14 +117,14 @@ class Printer:
         if row.answer is not None and row.verdict in (Verdict.PLATFORMS, Verdict.DEPENDS):
             yield from self._values(row.answer)
         if file.is_never:
-            yield f"its file is compiled on no target: {all_of(file.context)}"
+            yield f"its file is compiled on no target: {self._context_of(file.context)}"
         elif row.within is not None:
             line = file.code.conditions[row.within].place.line
             yield f"it stands in what is never true, from line {line} on"
         elif one.guard is not None:
             yield f"inside of {guards_of(file, one.guard)}"
         if file.context and not file.is_never:
-            yield f"its file is compiled where {all_of(file.context)}"
+            yield f"its file is compiled where {self._context_of(file.context)}"
         if row.is_partial:
             yield "a condition around it was not read, so it may be true on fewer targets"
         if row.verdict is Verdict.NOT_TRIED:
@@ -198,10 +201,10 @@ def place_of(row: Row) -> Place:
 
 def guards_of(file: File, guard: Guard) -> str:
     """Returns the guards around a condition, from the inside out."""
-    told = [f"{one.text or 'what was not read'} (line {line_of(file, one)})"
-            for one in itertools.islice(guard.all, MOST_GUARDS)]
+    texts = [f"{shortened(one.text)} (line {line_of(file, one)})"
+             for one in itertools.islice(guard.all, MOST_GUARDS)]
     is_more = next(itertools.islice(guard.all, MOST_GUARDS, None), None) is not None
-    return ", ".join(told) + (" and others" if is_more else "")
+    return ", ".join(texts) + (" and others" if is_more else "")
 
 
 def line_of(file: File, guard: Guard) -> int:
