@@ -219,12 +219,29 @@ class Formats(Made):
             self.fitting(found, schema)
         found = json.loads(self.command("--format", "json", "--target",
                                         "x86_64-unknown-linux-gnu")[1])
-        one, two, *_ = found["files"][0]["conditions"]
-        told = one["is"], one["values"], one["line"], one["start"]
+        [file] = found["files"]
+        one, two, *_ = file["conditions"]
+        values = [one["values"] for one in file["answers"]]
+        told = one["is"], values[one["answer"]], one["line"], one["start"]
         self.assertEqual(told, ("never", ["no"], 1, 6))
-        self.assertEqual((two["is"], two["values"], two["problem"]["reason"]),
+        self.assertEqual((two["is"], two["answer"], two["problem"]["reason"]),
                          ("faulty", None, "MEMBERS"))
-        self.assertEqual(found["files"][0]["groups"][0]["two"]["values"], ["yes"])
+        self.assertEqual(values[file["groups"][0]["two"]], ["yes"])
+
+    def test_answers_of_json(self):
+        self.write("one.rs", "#[cfg(any(a, unix))] fn f() {} #[cfg(windows)] fn g() {}"
+                   " #[cfg(any(a, unix))] fn h() {} cfg_if! { if #[cfg(windows)] {} }")
+        found = json.loads(self.command("--format", "json", "--target",
+                                        "x86_64-unknown-linux-gnu,x86_64-pc-windows-msvc")[1])
+        [file] = found["files"]
+        self.assertEqual([one["answer"] for one in file["conditions"]], [0, 1, 0, 1])
+        self.assertEqual([(one["none"], one["two"]) for one in file["groups"]], [(2, None)])
+        self.assertEqual(file["answers"], [
+            {"values": ["yes", "unknown"], "unknown": [
+                {"targets": [1], "flags": ["a"], "if_yes": {"a": True}, "if_no": {"a": False}}]},
+            {"values": ["no", "yes"], "unknown": []},
+            {"values": ["yes", "no"], "unknown": []},
+        ])
 
     def json_file(self, *words):
         """Returns what JSON has of the only file: what its conditions have around them, and what is
@@ -253,13 +270,14 @@ class Formats(Made):
 
     def test_long_conditions_around_many(self):
         name, many = "x" * 60_000, "#[cfg(any())] impl A {}\n" * 300
+        flags, alike = ", ".join(map("a{}".format, range(6000))), "#[cfg(b)] impl A {}\n" * 300
         self.write("lib.rs", f"#[cfg(all({name}, {name}))] mod m {{ {many} }}"
-                   f" #[cfg({name})] mod n;")
+                   f" #[cfg({name})] mod n; #[cfg(any({flags}))] mod o {{ {alike} }}")
         self.write("n.rs", many)
         for form in ("text", "json", "tsv", "sarif"):
             words = ("--format", form, "--target", "x86_64-unknown-linux-gnu")
             printed = self.command(*words)[1]
-            self.assertTrue(10_000 < len(printed) < 1_000_000, (form, len(printed)))
+            self.assertTrue(10_000 < len(printed) < 1_500_000, (form, len(printed)))
 
     def test_tsv(self):
         self.write("one.rs", CODE)

@@ -338,6 +338,29 @@ class Costs(Made):
         self.assertIs(report.files[0].rows[-1].verdict, Verdict.NOT_TRIED)
         self.assertLess(seconds, 120)
 
+    def test_a_long_guard_around_many(self):
+        flags = ", ".join(map("a{}".format, range(6000)))
+        text = "".join(f"#[cfg(b{number})] impl A {{}}" for number in range(2000))
+        report, seconds = self.judged_in(f"#[cfg(any({flags}))] mod m {{ {text} }}")
+        rows = report.files[0].rows
+        self.assertEqual(len(rows), 2001)
+        self.assertTrue(all(row.answer for row in rows[:20]))
+        self.assertFalse(any(row.answer for row in rows[40:]))
+        self.assertLess(seconds, 60)
+
+    def test_memory_of_conditions_that_are_alike(self):
+        flags = ", ".join(map("a{}".format, range(6000)))
+        text = f"#[cfg(any({flags}))] mod m {{ {'#[cfg(b)] impl A {}' * 2000} }}"
+        path = self.write("one.rs", text)
+        tracemalloc.start()
+        try:
+            report = code.report([path], [LINUX])
+            _, peak = tracemalloc.get_traced_memory()
+        finally:
+            tracemalloc.stop()
+        self.assertIs(report.files[0].rows[-1].verdict, Verdict.DEPENDS)
+        self.assertLess(peak, 30_000_000)
+
     def test_a_long_chain(self):
         branches = " else ".join(f"if #[cfg(a{number})] {{}}" for number in range(400))
         report, seconds = self.judged_in(f"cfg_if! {{ {branches} }}")

@@ -1,14 +1,14 @@
 """What is found in a report."""
-from typing import Iterator, NamedTuple, Optional, Tuple
+from typing import Iterator, NamedTuple, Tuple
 
 from .._terminal import shown
-from ._model import Condition, Group, Place
+from ._model import Condition, Group, Guard, Place
 from ._names import FAULTY, NEVER, OVERLAP
 from ._report import File, Report
 from ._values import GroupRow, Row, Verdict
 
-# How many characters are told of a condition around another one.
-MOST_TOLD = 200
+# How many characters are told of what may be long and stands at many conditions.
+MOST_TOLD = 400
 
 
 class Finding(NamedTuple):
@@ -75,14 +75,16 @@ def around(one: Condition) -> str:
     """Returns what tells the condition around another one, or nothing."""
     if one.guard is None:
         return ""
-    return f", inside of {shortened(one.guard.text)}"
+    return f", inside of {told_of(one.guard)}"
 
 
-def shortened(text: Optional[str]) -> str:
-    """Returns what is told of a condition around another one: its text, or the beginning of a long
-    one."""
-    if text is None:
-        return "what was not read"
+def told_of(guard: Guard) -> str:
+    """Returns what is told of a guard."""
+    return "what was not read" if guard.text is None else shortened(guard.text)
+
+
+def shortened(text: str) -> str:
+    """Returns a text, or the beginning of a long one."""
     return text if len(text) <= MOST_TOLD else f"{text[:MOST_TOLD]}.."
 
 

@@ -30,22 +30,42 @@ HEAD = ("path", "line", "column", "form", "is", "yes", "no", "unknown", "within"
 Answered = Callable[[Tuple[Optional[bool], ...]], List[str]]
 
 
-class Guards:
-    """The guards of a file that are told. Each is told once, since many conditions share it."""
+class Shared:
+    """What conditions of a file share: the guards around them, and answers. Each is told once, and
+    elsewhere by its place in one of these lists."""
 
-    def __init__(self) -> None:
-        self.entries: List[Dict[str, Any]] = []
+    def __init__(self, answered: Answered) -> None:
+        self.guards: List[Dict[str, Any]] = []
+        self.answers: List[Dict[str, Any]] = []
+        self._answered = answered
+        # The places by the numbers of objects, which the report keeps.
         self._places: Dict[int, int] = {}
 
-    def place_of(self, guard: Optional[Guard]) -> Optional[int]:
-        """Returns the place of a guard among those that are told, behind those around it."""
+    def guard(self, guard: Optional[Guard]) -> Optional[int]:
+        """Returns the place of a guard. Those around it stand in front of it."""
         around: Iterable[Guard] = [] if guard is None else guard.all
         new = list(itertools.takewhile(lambda one: id(one) not in self._places, around))
         for one in reversed(new):
             outer = None if one.outer is None else self._places[id(one.outer)]
-            self._places[id(one)] = len(self.entries)
-            self.entries.append({"condition": one.text, "number": one.number, "outer": outer})
+            self._places[id(one)] = len(self.guards)
+            self.guards.append({"condition": one.text, "number": one.number, "outer": outer})
         return None if guard is None else self._places[id(guard)]
+
+    def answer(self, answer: Optional[Answer]) -> Optional[int]:
+        """Returns the place of an answer."""
+        if answer is None:
+            return None
+        if id(answer) not in self._places:
+            self._places[id(answer)] = len(self.answers)
+            self.answers.append({
+                "values": self._answered(answer.on),
+                "unknown": [
+                    {"targets": list(places), "flags": list(reason.flags),
+                     "if_yes": reason.if_yes, "if_no": reason.if_no}
+                    for reason, places in answer.unknown
+                ],
+            })
+        return self._places[id(answer)]
 
 
 def json_of(report: Report, only: Sequence[str], is_summary: bool) -> Iterator[str]:
@@ -74,17 +94,17 @@ def file_entry(file: File, only: Sequence[str], answered: Answered) -> Dict[str,
     unread: Optional[Dict[str, Any]] = None
     if file.code.unread is not None and file.code.unread_from is not None:
         unread = {"message": file.code.unread, **place_members(file.code.unread_from)}
-    guards, rows = Guards(), chosen_rows(file, frozenset(only))
+    shared, rows = Shared(answered), chosen_rows(file, frozenset(only))
     return {
         "path": file.path, "context": list(file.context), "unread": unread,
-        "conditions": [row_entry(row, guards, answered) for row in rows],
-        "guards": guards.entries,
-        "groups": [group_entry(row, answered) for row in file.groups],
+        "conditions": [row_entry(row, shared) for row in rows],
+        "groups": [group_entry(row, shared) for row in file.groups],
+        "guards": shared.guards, "answers": shared.answers,
     }
 
 
-def row_entry(row: Row, guards: Guards, answered: Answered) -> Dict[str, Any]:
-    """Returns the object of a condition, and adds its guards to those of the file."""
+def row_entry(row: Row, shared: Shared) -> Dict[str, Any]:
+    """Returns the object of a condition."""
     one = row.condition
     problem: Optional[Dict[str, Any]] = None
     if one.problem is not None:
@@ -94,11 +114,11 @@ def row_entry(row: Row, guards: Guards, answered: Answered) -> Dict[str, Any]:
         "number": one.number, "form": one.form.value, "inner": one.is_inner,
         **place_members(one.place), "condition": one.text, "is": choice_of(row.verdict),
         "within": row.within, "partial": row.is_partial, "problem": problem,
-        "guard": guards.place_of(one.guard), **answer_members(row.answer, answered),
+        "guard": shared.guard(one.guard), "answer": shared.answer(row.answer),
     }
 
 
-def group_entry(row: GroupRow, answered: Answered) -> Dict[str, Any]:
+def group_entry(row: GroupRow, shared: Shared) -> Dict[str, Any]:
     """Returns the object of what belongs together."""
     group = row.group
     return {
@@ -106,8 +126,7 @@ def group_entry(row: GroupRow, answered: Answered) -> Dict[str, Any]:
         "branches": list(group.branches), "last": group.has_last,
         "items": [{"kind": item.kind, "name": item.name, **place_members(item.place)}
                   for item in group.items],
-        "none": row.none and answer_members(row.none, answered),
-        "two": row.two and answer_members(row.two, answered),
+        "none": shared.answer(row.none), "two": shared.answer(row.two),
     }
 
 
@@ -119,18 +138,6 @@ def place_members(place: Place) -> Dict[str, Any]:
 def values_of(on: Tuple[Optional[bool], ...]) -> List[str]:
     """Returns the words for values."""
     return [WORDS[value] for value in on]
-
-
-def answer_members(answer: Optional[Answer], answered: Answered) -> Dict[str, Any]:
-    """Returns the members of an answer."""
-    if answer is None:
-        return {"values": None, "unknown": []}
-    unknown = [
-        {"targets": list(places), "flags": list(reason.flags), "if_yes": reason.if_yes,
-         "if_no": reason.if_no}
-        for reason, places in answer.unknown
-    ]
-    return {"values": answered(answer.on), "unknown": unknown}
 
 
 def tsv_of(report: Report, only: Sequence[str], is_summary: bool) -> Iterator[str]:

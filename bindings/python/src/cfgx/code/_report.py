@@ -165,12 +165,11 @@ def report_on(entries: Iterable[_folders.Entry], platforms: Sequence[Platform]) 
             codes.append(read(one.text))
     modules = Modules([one.path for one in sources], codes)
     contexts = [modules.context(number) for number in range(len(codes))]
+    judgements = judged(codes, contexts, platforms, sum(len(one.text) for one in sources))
     files = [
         File(source.path, source.text, code, tuple(found.rows), tuple(found.groups),
              tuple(context), found.file)
-        for source, code, context, found in zip(
-            sources, codes, contexts, judged(codes, contexts, platforms)
-        )
+        for source, code, context, found in zip(sources, codes, contexts, judgements)
         if code.conditions or code.unread
     ]
     return Report(tuple(platforms), tuple(files), tuple(passed), count)

@@ -4,9 +4,10 @@ import itertools
 from typing import Dict, FrozenSet, Iterable, Iterator, List, Optional, Sequence, Tuple
 
 from .._terminal import Colour, cells_of, coloured, shown, wrapped
+from ..manifest._conditions import Unknown
 from ..manifest._once import Once
 from ..manifest._table import examples_of
-from ._findings import name_of, shortened
+from ._findings import name_of, shortened, told_of
 from ._lexer import MARK
 from ._model import Guard, Place
 from ._names import CHOICES, NONE, TWO
@@ -72,6 +73,8 @@ class Printer:
         self._has_colours = has_colours
         # What is told of the conditions around a file, which is the same for all that stand in it.
         self._context_of: Once[Tuple[str, ...], str] = Once(lambda texts: shortened(all_of(texts)))
+        # Equal conditions share what is told of the flags on which they depend.
+        self._reason_of: Once[Unknown, str] = Once(clause_of)
 
     def lines(self) -> Iterator[str]:
         """Yields the lines of all conditions and groups that were chosen, and a last one that
@@ -138,7 +141,7 @@ class Printer:
         if None in answer.on:
             yield f"depends on {answer.on.count(None)} of {count}: {self._counts(answer, None)}"
         for reason, _ in answer.unknown[:MOST_REASONS]:
-            yield f"{', '.join(reason.flags)}: {examples_of(reason)}"
+            yield self._reason_of(reason)
         if len(answer.unknown) > MOST_REASONS:
             yield f"and for {len(answer.unknown) - MOST_REASONS} other groups of targets"
         if False in answer.on:
@@ -193,6 +196,11 @@ def members_of(row: GroupRow, what: str) -> str:
     return f"{len(group.branches)} branches, and none for what is left"
 
 
+def clause_of(reason: Unknown) -> str:
+    """Returns a clause with flags on which something depends, and with examples."""
+    return f"{shortened(', '.join(reason.flags))}: {shortened(examples_of(reason))}"
+
+
 def place_of(row: Row) -> Place:
     """Returns the place of what is wrong with a condition, or of the condition."""
     problem = row.condition.problem
@@ -201,7 +209,7 @@ def place_of(row: Row) -> Place:
 
 def guards_of(file: File, guard: Guard) -> str:
     """Returns the guards around a condition, from the inside out."""
-    texts = [f"{shortened(one.text)} (line {line_of(file, one)})"
+    texts = [f"{told_of(one)} (line {line_of(file, one)})"
              for one in itertools.islice(guard.all, MOST_GUARDS)]
     is_more = next(itertools.islice(guard.all, MOST_GUARDS, None), None) is not None
     return ", ".join(texts) + (" and others" if is_more else "")

@@ -21,8 +21,11 @@ FIXED = re.compile(
     r"unix|windows|unix=.*|windows=.*|target_has_atomic=.*"
     r"|target_(?:abi|arch|endian|env|family|os|pointer_width|vendor)(?:=.*)?", re.DOTALL
 )
-# How many characters one question may have, and all of a report.
-MOST_CHARACTERS, MOST_ALL = 1 << 16, 1 << 25
+# How many characters one question may have.
+MOST_CHARACTERS = 1 << 16
+# How many characters all questions of a report may have: some, and several times those of the code,
+# up to a number. A long guard is in the question of each condition inside of it.
+LEAST_ALL, TIMES_CODE, MOST_ALL = 1 << 20, 4, 1 << 25
 # How many guards around a condition are looked at. One inside of a thousand others, or the last of
 # as many branches, has too many.
 MOST_AROUND = 256
@@ -127,29 +130,33 @@ def all_of(texts: Sequence[str]) -> str:
 class Questions:
     """Conditions that are asked at once, each once."""
 
-    def __init__(self, platforms: Sequence[Platform]) -> None:
+    def __init__(self, platforms: Sequence[Platform], size: int) -> None:
+        """`size` is how many characters the code has."""
         self._platforms = platforms
         self._budget = Budget()
-        self._left = MOST_ALL
-        self._waiting: Dict[str, None] = {}
+        self._left = min(LEAST_ALL + TIMES_CODE * size, MOST_ALL)
+        # Each question once: many conditions share one, and it may be long.
+        self._names: Dict[str, str] = {}
+        self._waiting: List[str] = []
         self._answers: Dict[str, Answer] = {}
         # By what is printed of them: unlike a tuple, a text has a hash that nobody can choose.
         self._tuples: Dict[str, Tuple[Optional[bool], ...]] = {}
 
     def ask(self, texts: Optional[Sequence[str]]) -> Optional[str]:
         """Takes the question whether all of some conditions hold, and returns its name, or `None`
-        if it is too long."""
+        if it is too long by itself or with those before it."""
         if texts is None:
             return None
         if sum(map(len, texts)) > MOST_CHARACTERS:
             return None
         name = all_of(texts)
-        if name not in self._waiting and name not in self._answers:
+        if name not in self._names:
             if len(name) > MOST_CHARACTERS or len(name) > self._left:
                 return None
             self._left -= len(name)
-            self._waiting[name] = None
-        return name
+            self._names[name] = name
+            self._waiting.append(name)
+        return self._names[name]
 
     def find(self) -> None:
         """Finds the answers to the questions that wait."""
@@ -157,7 +164,7 @@ class Questions:
         found = values_of(asked, self._platforms, self._budget, is_open)
         for text in self._waiting:
             self._answers[text] = self._answer_of(found[f"cfg({text})"])
-        self._waiting = {}
+        self._waiting = []
 
     def _answer_of(self, values: Values) -> Answer:
         """Returns an answer. Equal values are one object."""
@@ -179,6 +186,8 @@ class Judged:
         self._context = list(context)
         self._questions = questions
         self._file: Optional[str] = None
+        # The questions by the numbers of guards, which the code keeps, and by texts inside of them.
+        self._inside: Dict[Tuple[int, str], Optional[str]] = {}
         self._asked: Dict[int, Optional[str]] = {}
         self._always: Dict[int, Optional[str]] = {}
         self._groups: List[Tuple[Optional[str], Optional[str]]] = []
@@ -189,7 +198,7 @@ class Judged:
             self._file = self._questions.ask(self._context)
         for one in self._code.conditions:
             if one.text is not None:
-                self._asked[one.number] = self._questions.ask(self._guarded(one, one.text))
+                self._asked[one.number] = self._ask_inside(one.guard, one.text)
         self._groups = [self._ask_group(group) for group in self._code.groups]
 
     def ask_always(self) -> None:
@@ -199,13 +208,17 @@ class Judged:
             if answer is None or one.text is None or answer.is_never:
                 continue
             if one.guard is not None or self._context:
-                negated = self._guarded(one, f"not({one.text})")
-                self._always[one.number] = self._questions.ask(negated)
+                self._always[one.number] = self._ask_inside(one.guard, f"not({one.text})")
 
-    def _guarded(self, one: Condition, text: str) -> Optional[List[str]]:
-        """Returns what has to hold for a condition to matter, and a text in its place."""
-        texts = guard_texts(one.guard)
-        return None if texts is None else list(dict.fromkeys([*self._context, *texts, text]))
+    def _ask_inside(self, guard: Optional[Guard], text: str) -> Optional[str]:
+        """Asks whether a condition holds where a guard does, and returns the name of the
+        question."""
+        key = id(guard), text
+        if key not in self._inside:
+            texts = guard_texts(guard)
+            around = None if texts is None else [*self._context, *texts, text]
+            self._inside[key] = self._questions.ask(around and list(dict.fromkeys(around)))
+        return self._inside[key]
 
     def file(self) -> Optional[Answer]:
         """Returns where the file is compiled, if that is told of it."""
@@ -301,11 +314,13 @@ class Judgement(NamedTuple):
 
 
 def judged(
-    codes: Iterable[Code], contexts: Iterable[Sequence[str]], platforms: Sequence[Platform]
+    codes: Iterable[Code], contexts: Iterable[Sequence[str]], platforms: Sequence[Platform],
+    size: int,
 ) -> Iterator[Judgement]:
     """Yields what the conditions of each file are on platforms, and where none or two of what
-    belongs together are taken. A context has what has to hold for a file to be compiled."""
-    questions = Questions(platforms)
+    belongs together are taken. A context has what has to hold for a file to be compiled. `size` is
+    how many characters all files have."""
+    questions = Questions(platforms, size)
     files = [Judged(code, context, questions) for code, context in zip(codes, contexts)]
     for one in files:
         one.ask()
