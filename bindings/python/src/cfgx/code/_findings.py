@@ -83,9 +83,9 @@ def told_of(guard: Guard) -> str:
     return "what was not read" if guard.text is None else shortened(guard.text)
 
 
-def shortened(text: str) -> str:
-    """Returns a text, or the beginning of a long one."""
-    return text if len(text) <= MOST_TOLD else f"{text[:MOST_TOLD]}.."
+def shortened(text: str, most: int = MOST_TOLD) -> str:
+    """Returns a text, or the beginning of one that has more than a number of characters."""
+    return text if len(text) <= most else f"{text[:most]}.."
 
 
 def name_of(group: Group) -> str:

@@ -16,6 +16,8 @@ from ._values import Answer, GroupRow, Row, Verdict, all_of
 
 # How many characters of a line are shown before a mark, and at most.
 BEFORE, MOST = 60, 160
+# How many characters are told of what has to hold for a file. Those of `libc` have up to 1,440.
+MOST_CONTEXT = 2000
 # Up to how many targets each is named, and how many systems, guards and reasons are told.
 MOST_TARGETS = 16
 MOST_SYSTEMS, MOST_GUARDS, MOST_REASONS = 12, 8, 3
@@ -72,7 +74,9 @@ class Printer:
         self._width = width
         self._has_colours = has_colours
         # What is told of the conditions around a file, which is the same for all that stand in it.
-        self._context_of: Once[Tuple[str, ...], str] = Once(lambda texts: shortened(all_of(texts)))
+        self._context_of: Once[Tuple[str, ...], str] = Once(
+            lambda texts: shortened(all_of(texts), MOST_CONTEXT)
+        )
         # Equal conditions share what is told of the flags on which they depend.
         self._reason_of: Once[Unknown, str] = Once(clause_of)
 
