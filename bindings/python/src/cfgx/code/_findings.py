@@ -1,7 +1,7 @@
 """What is found in a report."""
 from typing import Iterator, NamedTuple, Tuple
 
-from .._terminal import shown
+from .._terminal import CUT, shown
 from ._model import Condition, Group, Guard, Place
 from ._names import FAULTY, NEVER, OVERLAP
 from ._report import File, Report
@@ -85,7 +85,7 @@ def told_of(guard: Guard) -> str:
 
 def shortened(text: str, most: int = MOST_TOLD) -> str:
     """Returns a text, or the beginning of one that has more than a number of characters."""
-    return text if len(text) <= most else f"{text[:most]}.."
+    return text if len(text) <= most else text[:most] + CUT
 
 
 def name_of(group: Group) -> str:

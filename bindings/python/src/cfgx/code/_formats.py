@@ -38,8 +38,9 @@ class Shared:
         self.guards: List[Dict[str, Any]] = []
         self.answers: List[Dict[str, Any]] = []
         self._answered = answered
-        # The places by the numbers of objects, which the report keeps.
+        # The places of guards by the numbers of these objects, which the report keeps.
         self._places: Dict[int, int] = {}
+        self._place_of = Once(self._listed)
 
     def guard(self, guard: Optional[Guard]) -> Optional[int]:
         """Returns the place of a guard. Those around it stand in front of it."""
@@ -53,19 +54,17 @@ class Shared:
 
     def answer(self, answer: Optional[Answer]) -> Optional[int]:
         """Returns the place of an answer."""
-        if answer is None:
-            return None
-        if id(answer) not in self._places:
-            self._places[id(answer)] = len(self.answers)
-            self.answers.append({
-                "values": self._answered(answer.on),
-                "unknown": [
-                    {"targets": list(places), "flags": list(reason.flags),
-                     "if_yes": reason.if_yes, "if_no": reason.if_no}
-                    for reason, places in answer.unknown
-                ],
-            })
-        return self._places[id(answer)]
+        return None if answer is None else self._place_of(answer)
+
+    def _listed(self, answer: Answer) -> int:
+        """Adds an answer to the list, and returns its place."""
+        unknown = [
+            {"targets": list(places), "flags": list(reason.flags), "if_yes": reason.if_yes,
+             "if_no": reason.if_no}
+            for reason, places in answer.unknown
+        ]
+        self.answers.append({"values": self._answered(answer.on), "unknown": unknown})
+        return len(self.answers) - 1
 
 
 def json_of(report: Report, only: Sequence[str], is_summary: bool) -> Iterator[str]:

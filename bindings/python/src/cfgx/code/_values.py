@@ -9,6 +9,7 @@ import dataclasses
 import enum
 import itertools
 import re
+import sys
 from typing import Dict, Iterable, Iterator, List, NamedTuple, Optional, Sequence, Tuple
 
 from ..manifest._conditions import Unknown, Values, values_of
@@ -135,28 +136,24 @@ class Questions:
         self._platforms = platforms
         self._budget = Budget()
         self._left = min(LEAST_ALL + TIMES_CODE * size, MOST_ALL)
-        # Each question once: many conditions share one, and it may be long.
-        self._names: Dict[str, str] = {}
-        self._waiting: List[str] = []
+        self._waiting: Dict[str, None] = {}
         self._answers: Dict[str, Answer] = {}
         # By what is printed of them: unlike a tuple, a text has a hash that nobody can choose.
         self._tuples: Dict[str, Tuple[Optional[bool], ...]] = {}
 
-    def ask(self, texts: Optional[Sequence[str]]) -> Optional[str]:
+    def ask(self, texts: Sequence[str]) -> Optional[str]:
         """Takes the question whether all of some conditions hold, and returns its name, or `None`
         if it is too long by itself or with those before it."""
-        if texts is None:
-            return None
         if sum(map(len, texts)) > MOST_CHARACTERS:
             return None
-        name = all_of(texts)
-        if name not in self._names:
+        # Many conditions share a question, and it may be long.
+        name = sys.intern(all_of(texts))
+        if name not in self._waiting and name not in self._answers:
             if len(name) > MOST_CHARACTERS or len(name) > self._left:
                 return None
             self._left -= len(name)
-            self._names[name] = name
-            self._waiting.append(name)
-        return self._names[name]
+            self._waiting[name] = None
+        return name
 
     def find(self) -> None:
         """Finds the answers to the questions that wait."""
@@ -164,7 +161,7 @@ class Questions:
         found = values_of(asked, self._platforms, self._budget, is_open)
         for text in self._waiting:
             self._answers[text] = self._answer_of(found[f"cfg({text})"])
-        self._waiting = []
+        self._waiting = {}
 
     def _answer_of(self, values: Values) -> Answer:
         """Returns an answer. Equal values are one object."""
@@ -216,8 +213,9 @@ class Judged:
         key = id(guard), text
         if key not in self._inside:
             texts = guard_texts(guard)
-            around = None if texts is None else [*self._context, *texts, text]
-            self._inside[key] = self._questions.ask(around and list(dict.fromkeys(around)))
+            self._inside[key] = None if texts is None else self._questions.ask(
+                list(dict.fromkeys([*self._context, *texts, text]))
+            )
         return self._inside[key]
 
     def file(self) -> Optional[Answer]:
