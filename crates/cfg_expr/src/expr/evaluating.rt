@@ -262,7 +262,7 @@ fn eval_nodes<T: Logic>(nodes: &[ExprNode], slots: &mut [Slot<T>]) -> Option<T>
 /// nodes take at least `2 * n - 1` bytes, so this one has at most 33.
 // A new vector that was returned in a `Result` would be copied out of it.
 pub(super) fn push_empty_slots<T: Logic, A: Allocator>(
-    slots: &mut SmallVec<Slot<T>, 33, &A>,
+    slots: &mut SmallVec<Slot<T>, 36, &A>,
     count: usize,
 ) -> Result<(), AllocError>
     requires new { (slots.old.items ≡ []) × (slots.old.capacity ≡ 33) }
