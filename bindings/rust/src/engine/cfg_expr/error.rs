@@ -1,0 +1,9 @@
+// Made of crates/cfg_expr/src/error.rt
+// by bindings/rust/engine/make, which leaves its contracts out. Change it there.
+
+//! Faults of texts.
+
+pub mod laws;
+
+pub use crate::engine::cfgx_fields::error::HasAtomicParseError;
+pub use crate::engine::cfgx_syntax::error::{Failure, ParseError, Reason};

@@ -1,0 +1,24 @@
+//! What the library of Rattle has and that of Rust has not, as far as the engine uses it.
+//!
+//! In Rattle, each call that takes memory may be refused it, and returns an error then. So a
+//! collection here is one of Rust with calls that return a `Result`. It has an allocator too, since
+//! the calls of the engine are passed one. `Global` takes no bytes and refuses nothing by itself.
+
+pub(crate) mod alloc;
+pub(crate) mod borrow;
+mod fmt;
+pub(crate) mod smallvec;
+mod string;
+mod vec;
+
+/// The names that each file of Rattle has without an import.
+pub(crate) mod prelude {
+    pub(crate) use super::fmt::{FormatterExt, ListExt};
+    pub(crate) use super::string::String;
+    pub(crate) use super::vec::{Vec, vec};
+
+    /// What every type is. In Rattle a value can be dropped only if its type is `Drop`.
+    pub trait Drop {}
+
+    impl<T: ?Sized> Drop for T {}
+}
