@@ -8,6 +8,10 @@
 #![allow(dead_code, unused_imports)]
 // The byte orders are spelled as the values of `target_endian` are.
 #![allow(non_camel_case_types)]
+// The form is that of the sources. Rattle lacks some shorter ones, and proofs follow others.
+#![allow(clippy::complexity, clippy::style)]
+// Lists are in the order of slices by both traits.
+#![allow(clippy::non_canonical_partial_ord_impl)]
 
 pub(crate) mod cfg_expr;
 pub(crate) mod cfgx_engine;

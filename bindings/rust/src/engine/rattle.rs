@@ -4,6 +4,8 @@
 //! collection here is one of Rust with calls that return a `Result`. It has an allocator too, since
 //! the calls of the engine are passed one. `Global` takes no bytes and refuses nothing by itself.
 
+#![warn(clippy::complexity, clippy::style)]
+
 pub(crate) mod alloc;
 pub(crate) mod borrow;
 mod fmt;

@@ -1,6 +1,6 @@
 //! Methods of formatters.
 
-use std::fmt::{DebugList, Debug, Display, Formatter, Result};
+use std::fmt::{Debug, DebugList, Display, Formatter, Result};
 
 /// What a formatter of Rattle can do besides.
 pub trait FormatterExt {

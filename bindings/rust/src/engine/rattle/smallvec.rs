@@ -55,7 +55,13 @@ where
         self.grow(additional)
     }
 
-    /// Makes room for `additional` more items, of which there is too little.
+    /// Whether there is room for one more item.
+    #[inline]
+    fn has_room(&self) -> bool {
+        self.items.len() < self.items.capacity()
+    }
+
+    /// Makes room for `additional` more items, for which there is too little.
     #[cold]
     #[inline(never)]
     fn grow(&mut self, additional: usize) -> Result<(), AllocError> {
@@ -88,7 +94,7 @@ where
     /// `AllocFailed`: memory was refused. The item comes back.
     #[inline]
     pub fn push(&mut self, value: T) -> Result<(), AllocFailed<T>> {
-        if self.items.len() == self.items.capacity() && self.grow(1).is_err() {
+        if !self.has_room() && self.grow(1).is_err() {
             return Err(AllocFailed { value });
         }
         self.items.push(value);
@@ -102,7 +108,7 @@ where
     /// There is no room, which is a mistake of the caller.
     #[inline]
     pub fn push_reserved(&mut self, value: T) {
-        assert!(self.items.len() < self.items.capacity(), "no room was reserved");
+        assert!(self.has_room(), "no room was reserved");
         self.items.push(value);
     }
 

@@ -6,7 +6,6 @@ use std::fmt;
 /// A text that is owned.
 pub struct String<A: Allocator = Global> {
     text: std::string::String,
-    #[allow(dead_code)]
     alloc: A,
 }
 

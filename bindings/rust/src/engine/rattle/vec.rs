@@ -49,7 +49,13 @@ impl<T, A: Allocator> Vec<T, A> {
         self.grow(additional)
     }
 
-    /// Makes room for `additional` more items, of which there is too little.
+    /// Whether there is room for one more item.
+    #[inline]
+    fn has_room(&self) -> bool {
+        self.items.len() < self.items.capacity()
+    }
+
+    /// Makes room for `additional` more items, for which there is too little.
     #[cold]
     #[inline(never)]
     fn grow(&mut self, additional: usize) -> Result<(), AllocError> {
@@ -66,7 +72,7 @@ impl<T, A: Allocator> Vec<T, A> {
     /// `AllocFailed`: memory was refused. The item comes back.
     #[inline]
     pub fn push(&mut self, value: T) -> Result<(), AllocFailed<T>> {
-        if self.items.len() == self.items.capacity() && self.grow(1).is_err() {
+        if !self.has_room() && self.grow(1).is_err() {
             return Err(AllocFailed { value });
         }
         self.items.push(value);
@@ -80,7 +86,7 @@ impl<T, A: Allocator> Vec<T, A> {
     /// There is no room, which is a mistake of the caller.
     #[inline]
     pub fn push_reserved(&mut self, value: T) {
-        assert!(self.items.len() < self.items.capacity(), "no room was reserved");
+        assert!(self.has_room(), "no room was reserved");
         self.items.push(value);
     }
 
