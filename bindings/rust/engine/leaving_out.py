@@ -146,7 +146,8 @@ class Reader:
         """Leaves out tokens, and the comment right above them, which speaks of them."""
         index = self.code[begin] - 1
         while index > 0 and self.tokens[index].text.count("\n") == 1 \
-                and self.tokens[index - 1].kind == "comment" and self.begins_line(index - 1):
+                and self.tokens[index - 1].kind == "comment" and self.begins_line(index - 1) \
+                and not self.tokens[index - 1].text.startswith("//!"):
             self.kept[index] = self.kept[index - 1] = ""
             index -= 2
         return self.leave_out(begin, end)
@@ -206,7 +207,10 @@ class Reader:
         """An item that is left out with its attributes: a test, or the law of a derive"""
         end = begin
         while self.text(end) not in ("{", ";"):
-            end = self.behind_pair(end) if self.text(end) in PAIRS else end + 1
+            if self.text(end) in ("requires", "ensures"):
+                end = self.clause(end)
+            else:
+                end = self.behind_pair(end) if self.text(end) in PAIRS else end + 1
         if is_ghost:
             self.check_ghosts(end)
         end = end + 1 if self.text(end) == ";" else self.behind_pair(end)
@@ -252,8 +256,10 @@ class Reader:
         """`mod name;` of a module that is not needed"""
         if self.text(at + 1) not in self.modules:
             return at + 1
+        if self.text(at + 2) != ";" or self.has(at - 1, ")"):
+            raise self.refuse(at, f"the module `{self.text(at + 1)}` is no file for all")
         begin = at - 1 if self.has(at - 1, "pub") else at
-        return self.leave_out_with_comment(begin, self.behind(at, ";"))
+        return self.leave_out_with_comment(begin, at + 3)
 
     def writer(self, at: int) -> int:
         """The parameter of a function for what a formatter writes to"""

@@ -3,7 +3,5 @@
 
 //! Faults of texts.
 
-pub mod laws;
-
 pub use crate::engine::cfgx_fields::error::HasAtomicParseError;
 pub use crate::engine::cfgx_syntax::error::{Failure, ParseError, Reason};

@@ -1,11 +1,12 @@
 // Made of crates/cfg_expr/src/expr.rt
 // by bindings/rust/engine/make, which leaves its contracts out. Change it there.
 
+//! Conditions, and the predicates that they ask.
+
 mod asked_texts;
 mod condition;
 mod evaluating;
 mod filling;
-pub mod laws;
 mod located;
 mod matcher;
 mod predicates;

@@ -1,6 +1,8 @@
 // Made of crates/cfgx_engine/src/resolve.rt
 // by bindings/rust/engine/make, which leaves its contracts out. Change it there.
 
+//! Sections of a manifest, each with a condition, and what a target says of them.
+
 mod auditing;
 mod by_facts;
 mod facts;

@@ -1,7 +1,7 @@
 // Made of crates/cfgx_parser/src/asked.rt
 // by bindings/rust/engine/make, which leaves its contracts out. Change it there.
 
-pub mod laws;
+//! What predicates ask, without their texts.
 
 use crate::engine::cfgx_fields::atomic::HasAtomic;
 use crate::engine::cfgx_fields::endian::Endian;

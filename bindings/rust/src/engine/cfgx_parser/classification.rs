@@ -1,6 +1,8 @@
 // Made of crates/cfgx_parser/src/classification.rt
 // by bindings/rust/engine/make, which leaves its contracts out. Change it there.
 
+//! What a key and its value say, or what is wrong with them and where.
+
 use crate::engine::cfgx_fields::reading::{read_endian, read_has_atomic, read_u8};
 use crate::engine::cfgx_fields::text_key::TextKey;
 use crate::engine::cfgx_parser::asked::{Asked, AskedTarget};

@@ -1,6 +1,8 @@
 // Made of crates/cfgx_parser/src/function.rt
 // by bindings/rust/engine/make, which leaves its contracts out. Change it there.
 
+//! The functions of conditions, and their order.
+
 use std::cmp::Ordering;
 
 /// A function of a condition, by its name alone.

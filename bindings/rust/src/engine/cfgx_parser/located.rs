@@ -1,6 +1,8 @@
 // Made of crates/cfgx_parser/src/located.rt
 // by bindings/rust/engine/make, which leaves its contracts out. Change it there.
 
+//! Predicates where they stand in their text.
+
 use crate::engine::cfgx_parser::asked::{Asked, AskedTarget};
 use std::ops::Range;
 

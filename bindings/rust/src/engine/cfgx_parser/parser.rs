@@ -1,6 +1,8 @@
 // Made of crates/cfgx_parser/src/parser.rt
 // by bindings/rust/engine/make, which leaves its contracts out. Change it there.
 
+//! The parser: from a text to the nodes of its tree, in one pass.
+
 use crate::engine::cfgx_parser::classification::{Fault, LocatedText, Pending, classify};
 use crate::engine::cfgx_parser::function::{Func, FuncKind};
 use crate::engine::cfgx_parser::located::Span;

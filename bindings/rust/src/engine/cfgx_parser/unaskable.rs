@@ -1,6 +1,8 @@
 // Made of crates/cfgx_parser/src/unaskable.rt
 // by bindings/rust/engine/make, which leaves its contracts out. Change it there.
 
+//! Whether a text is a key, or a key with a value, of which the key is at fault.
+
 use crate::engine::cfgx_parser::classification::{LocatedText, Pending, classify};
 use crate::engine::cfgx_parser::located::Span;
 use crate::engine::cfgx_syntax::error::Failure;

@@ -3,7 +3,6 @@
 
 //! What is wrong with a cfg text, where, and how it prints.
 
-pub mod laws;
 pub mod terms;
 
 use crate::engine::rattle::alloc::{AllocError, AllocFailed, Allocator, Global};

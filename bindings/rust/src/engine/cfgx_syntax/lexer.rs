@@ -1,8 +1,9 @@
 // Made of crates/cfgx_syntax/src/lexer.rt
 // by bindings/rust/engine/make, which leaves its contracts out. Change it there.
 
+//! The tokens of a `cfg()` text, with the bytes that spell them.
+
 mod bytes;
-pub mod laws;
 
 use crate::engine::cfgx_syntax::error::{Failure, Reason, terms};
 use crate::engine::cfgx_syntax::stripping::{Stripped, strip};

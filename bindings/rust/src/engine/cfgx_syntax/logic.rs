@@ -1,8 +1,9 @@
 // Made of crates/cfgx_syntax/src/logic.rt
 // by bindings/rust/engine/make, which leaves its contracts out. Change it there.
 
+//! The values that answers to predicates can have, and how `all`, `any` and `not` combine them.
+
 mod kleene;
-pub mod laws;
 
 use crate::engine::rattle::prelude::Drop;
 pub use kleene::Kleene64;

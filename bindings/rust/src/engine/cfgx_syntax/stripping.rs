@@ -1,6 +1,8 @@
 // Made of crates/cfgx_syntax/src/stripping.rt
 // by bindings/rust/engine/make, which leaves its contracts out. Change it there.
 
+//! The condition of a text with or without an outer `cfg( )`.
+
 /// A text without its outer `cfg( )`.
 #[derive(Clone, Copy, Debug)]
 pub struct Stripped<'a> {

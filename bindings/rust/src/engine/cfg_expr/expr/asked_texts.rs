@@ -1,6 +1,8 @@
 // Made of crates/cfg_expr/src/expr/asked_texts.rt
 // by bindings/rust/engine/make, which leaves its contracts out. Change it there.
 
+//! What predicates ask, with their texts, by which they are compared.
+
 use std::cmp::Ordering;
 
 /// What a predicate asks: the numbers of an `Asked`, and the texts. Predicates that are not equal

@@ -1,6 +1,8 @@
 // Made of crates/cfg_expr/src/expr/condition.rt
 // by bindings/rust/engine/make, which leaves its contracts out. Change it there.
 
+//! Borrowed conditions, and a reader that reads one condition after another.
+
 use super::{
     Decision, FromStep, LocatedPredicates, Logic, Predicate, Predicates, Step, evaluating, filling,
     steps,

@@ -1,6 +1,22 @@
 // Made of crates/cfg_expr/src/expr/evaluating.rt
 // by bindings/rust/engine/make, which leaves its contracts out. Change it there.
 
+//! Evaluation of a condition in any `Logic`. In those of `Option<bool>` and of the 64 lanes of
+//! `Kleene64`, an answer may be unknown: they are Kleene's strong logic.
+//!
+//! Each answer goes into the slot of its node. Then the nodes are read from the last to the first,
+//! with one stack: a leaf is pushed, and a function, whose node has the number of its members,
+//! replaces the values of its members by its own. The only entry left is the value of the
+//! condition.
+//!
+//! Unread answers occupy the front of the slots, and the stack occupies the back. They never
+//! overlap, since each node has one slot and pushes one entry.
+//!
+//! The nodes are in the order of the text. Predicates are asked in the order of `cfg-expr`: for
+//! each function, first those below its member functions, one function after another, and then
+//! those that are its own members. So `all(a, any(b, not(c)), d)` asks c, b, a and d. Members are
+//! joined in the reverse of this order.
+
 use super::{Condition, Func, Predicate, Predicates};
 use crate::engine::cfg_expr::memory::SmallAllocator;
 use crate::engine::cfgx_parser::nodes::ExprNode;

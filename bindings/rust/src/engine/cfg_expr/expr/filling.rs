@@ -1,6 +1,26 @@
 // Made of crates/cfg_expr/src/expr/filling.rt
 // by bindings/rust/engine/make, which leaves its contracts out. Change it there.
 
+//! Decides a condition when some answers to its predicates may be unknown. The decision is the
+//! value of the condition or, if that is unknown, two fillings: a filling has a truth value for
+//! each answer, and the condition is true with the first filling and false with the second. Each
+//! occurrence of a predicate has an answer of its own.
+//!
+//! Both fillings keep the known answers. For an unknown answer, the first filling has true if its
+//! predicate is below an even number of `not`, and false otherwise. The second filling has the
+//! opposite value. The condition never turns false when an answer below an even number of `not`
+//! turns true, or one below an odd number turns false. So it is true with the first filling if it
+//! is true with any, and false with the second if it is false with any.
+//!
+//! One pass over the nodes makes the list `negated`, which says of each node whether it is a
+//! predicate below an odd number of `not`. The stack `pending` begins with an entry for the whole
+//! condition. Later it has one for each subtree that the pass has not reached, but whose parent it
+//! has reached. The next one is on top. An entry is true if its subtree is below an odd number of
+//! `not`.
+//!
+//! Each subtree has a node of its own, so there are never more entries than nodes. Both lists hold
+//! 33 entries inline, so for up to 33 nodes the lists take no memory.
+
 use super::{Condition, Decision, Func, evaluating};
 use crate::engine::cfg_expr::memory::SmallAllocator;
 use crate::engine::cfgx_parser::nodes::ExprNode;

@@ -1,6 +1,8 @@
 // Made of crates/cfg_expr/src/expr/located.rt
 // by bindings/rust/engine/make, which leaves its contracts out. Change it there.
 
+//! The predicates of a condition where they stand in its text.
+
 use crate::engine::cfgx_parser::located::LocatedPredicate;
 use crate::engine::cfgx_parser::nodes::ExprNode;
 use std::fmt;

@@ -1,6 +1,8 @@
 // Made of crates/cfg_expr/src/expr/matcher.rt
 // by bindings/rust/engine/make, which leaves its contracts out. Change it there.
 
+//! Whether a target meets a predicate.
+
 use super::TargetPredicate;
 use crate::engine::cfgx_fields::Field;
 use crate::engine::cfgx_fields::text_key::TextKey;

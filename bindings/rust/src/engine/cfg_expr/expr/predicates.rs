@@ -1,6 +1,8 @@
 // Made of crates/cfg_expr/src/expr/predicates.rt
 // by bindings/rust/engine/make, which leaves its contracts out. Change it there.
 
+//! The predicates of a condition, and the iterator over them.
+
 use super::{AskedTexts, LocatedPredicates};
 use crate::engine::cfgx_fields::atomic::HasAtomic;
 use crate::engine::cfgx_fields::endian::Endian;

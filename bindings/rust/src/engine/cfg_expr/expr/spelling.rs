@@ -1,6 +1,8 @@
 // Made of crates/cfg_expr/src/expr/spelling.rt
 // by bindings/rust/engine/make, which leaves its contracts out. Change it there.
 
+//! Writes predicates.
+
 use super::{Predicate, TargetPredicate};
 use crate::engine::cfgx_fields::atomic::HasAtomic;
 use crate::engine::cfgx_fields::endian::Endian;

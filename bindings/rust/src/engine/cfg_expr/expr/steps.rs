@@ -1,6 +1,12 @@
 // Made of crates/cfg_expr/src/expr/steps.rt
 // by bindings/rust/engine/make, which leaves its contracts out. Change it there.
 
+//! The steps of conditions, and the value of any steps.
+//!
+//! The steps of a condition are its nodes as they stand in the text: a function stands in front of
+//! its members. They are read from the last to the first, with the stack that evaluates a
+//! condition.
+
 use super::evaluating::{Slot, Stack, literal_value, push_empty_slots};
 use super::{Condition, Func};
 use crate::engine::cfg_expr::memory::SmallAllocator;

@@ -1,6 +1,8 @@
 // Made of crates/cfgx_engine/src/resolve/auditing.rt
 // by bindings/rust/engine/make, which leaves its contracts out. Change it there.
 
+//! The values of a condition on many targets. One evaluation in 64 lanes serves up to 64 of them.
+
 use crate::engine::cfg_expr::Predicate;
 use crate::engine::cfg_expr::expr::logic::Kleene64;
 use crate::engine::cfg_expr::expr::{Condition, TargetMatcher};

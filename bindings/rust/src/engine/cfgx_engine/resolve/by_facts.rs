@@ -1,6 +1,8 @@
 // Made of crates/cfgx_engine/src/resolve/by_facts.rt
 // by bindings/rust/engine/make, which leaves its contracts out. Change it there.
 
+//! The values of many conditions on many targets that answer by their facts.
+
 use super::auditing::{Batch, push_batch};
 use super::facts::{Facts, Otherwise, unnamed_answer};
 use super::index::{Entries, all_lanes, merged};

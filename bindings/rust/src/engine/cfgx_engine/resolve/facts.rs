@@ -1,6 +1,8 @@
 // Made of crates/cfgx_engine/src/resolve/facts.rt
 // by bindings/rust/engine/make, which leaves its contracts out. Change it there.
 
+//! Facts of a target, and what they answer to predicates.
+
 use super::index::{Entries, merged, one_lane};
 use super::named::NamedPredicates;
 use crate::engine::cfg_expr::Predicate;

@@ -1,6 +1,9 @@
 // Made of crates/cfgx_engine/src/resolve/index.rt
 // by bindings/rust/engine/make, which leaves its contracts out. Change it there.
 
+//! What the facts of at most 64 targets say of predicates, in sorted lists. A binary search finds a
+//! predicate for all of these targets at once.
+
 use crate::engine::cfg_expr::expr::AskedTexts;
 use crate::engine::cfg_expr::expr::logic::{Kleene64, Logic};
 use crate::engine::rattle::alloc::{AllocError, Allocator};

@@ -1,6 +1,8 @@
 // Made of crates/cfgx_engine/src/resolve/named.rt
 // by bindings/rust/engine/make, which leaves its contracts out. Change it there.
 
+//! The predicates that facts name, sorted, so that a binary search finds one.
+
 use super::index::{Entries, ends_with};
 use crate::engine::cfg_expr::Predicate;
 use crate::engine::cfg_expr::expr::logic::Kleene64;

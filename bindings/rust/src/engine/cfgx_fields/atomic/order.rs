@@ -1,6 +1,8 @@
 // Made of crates/cfgx_fields/src/atomic/order.rt
 // by bindings/rust/engine/make, which leaves its contracts out. Change it there.
 
+//! The order of widths.
+
 use super::HasAtomic;
 use std::cmp::Ordering;
 

@@ -1,6 +1,8 @@
 // Made of crates/cfgx_fields/src/builtins/abis.rt
 // by bindings/rust/engine/make, which leaves its contracts out. Change it there.
 
+//! The named ABIs.
+
 use crate::engine::cfgx_fields::Abi;
 use crate::engine::rattle::alloc::Allocator;
 

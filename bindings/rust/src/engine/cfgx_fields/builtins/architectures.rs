@@ -1,6 +1,8 @@
 // Made of crates/cfgx_fields/src/builtins/architectures.rt
 // by bindings/rust/engine/make, which leaves its contracts out. Change it there.
 
+//! The named architectures.
+
 use crate::engine::cfgx_fields::Arch;
 use crate::engine::rattle::alloc::Allocator;
 

@@ -1,6 +1,8 @@
 // Made of crates/cfgx_fields/src/builtins/environments.rt
 // by bindings/rust/engine/make, which leaves its contracts out. Change it there.
 
+//! The named environments.
+
 use crate::engine::cfgx_fields::Env;
 use crate::engine::rattle::alloc::Allocator;
 

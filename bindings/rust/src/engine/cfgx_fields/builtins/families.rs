@@ -1,6 +1,8 @@
 // Made of crates/cfgx_fields/src/builtins/families.rt
 // by bindings/rust/engine/make, which leaves its contracts out. Change it there.
 
+//! The named families.
+
 use crate::engine::cfgx_fields::Family;
 use crate::engine::rattle::alloc::Allocator;
 

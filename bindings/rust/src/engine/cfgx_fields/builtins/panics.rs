@@ -1,6 +1,8 @@
 // Made of crates/cfgx_fields/src/builtins/panics.rt
 // by bindings/rust/engine/make, which leaves its contracts out. Change it there.
 
+//! The named panic strategies.
+
 use crate::engine::cfgx_fields::Panic;
 use crate::engine::rattle::alloc::Allocator;
 

@@ -1,6 +1,8 @@
 // Made of crates/cfgx_fields/src/builtins/systems.rt
 // by bindings/rust/engine/make, which leaves its contracts out. Change it there.
 
+//! The named operating systems.
+
 use crate::engine::cfgx_fields::Os;
 use crate::engine::rattle::alloc::Allocator;
 

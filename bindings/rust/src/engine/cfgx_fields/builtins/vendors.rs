@@ -1,6 +1,8 @@
 // Made of crates/cfgx_fields/src/builtins/vendors.rt
 // by bindings/rust/engine/make, which leaves its contracts out. Change it there.
 
+//! The named vendors.
+
 use crate::engine::cfgx_fields::Vendor;
 use crate::engine::rattle::alloc::Allocator;
 

@@ -1,6 +1,8 @@
 // Made of crates/cfgx_fields/src/endian/order.rt
 // by bindings/rust/engine/make, which leaves its contracts out. Change it there.
 
+//! The order of byte orders.
+
 use super::Endian;
 use std::cmp::Ordering;
 

@@ -1,6 +1,8 @@
 // Made of crates/cfgx_parser/src/nodes/writer.rt
 // by bindings/rust/engine/make, which leaves its contracts out. Change it there.
 
+//! The nodes of a tree while they are written, in one pass over the text.
+
 use super::ExprNode;
 use crate::engine::cfgx_parser::function::Func;
 use crate::engine::cfgx_syntax::memory::SmallAllocator;

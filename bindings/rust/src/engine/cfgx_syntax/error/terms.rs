@@ -1,6 +1,8 @@
 // Made of crates/cfgx_syntax/src/error/terms.rt
 // by bindings/rust/engine/make, which leaves its contracts out. Change it there.
 
+//! The lists of terms of `Unexpected`.
+
 use super::are_same_texts;
 
 /// Where nothing may stand: at the value of a key that takes none.

@@ -1,6 +1,8 @@
 // Made of crates/cfgx_syntax/src/lexer/bytes.rt
 // by bindings/rust/engine/make, which leaves its contracts out. Change it there.
 
+//! Classes of bytes, and runs of bytes.
+
 use Class::*;
 
 /// What a byte means to the lexer.

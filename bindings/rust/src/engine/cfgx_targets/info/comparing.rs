@@ -1,6 +1,8 @@
 // Made of crates/cfgx_targets/src/info/comparing.rt
 // by bindings/rust/engine/make, which leaves its contracts out. Change it there.
 
+//! The equality and the order of targets.
+
 use super::TargetInfo;
 use crate::engine::rattle::alloc::Allocator;
 use std::cmp::Ordering;
