@@ -1,8 +1,8 @@
 //! What the library of Rattle has and that of Rust has not, as far as the engine uses it.
 //!
 //! In Rattle, each call that takes memory may be refused it, and returns an error then. So a
-//! collection here is one of Rust with calls that return a `Result`. It has an allocator too, since
-//! the calls of the engine are passed one. `Global` takes no bytes and refuses nothing by itself.
+//! collection here is one of Rust whose calls return a `Result`. The calls of the engine are passed
+//! an allocator too. Here it only names the allocator of the program, which gives all memory.
 
 #![warn(clippy::complexity, clippy::style)]
 

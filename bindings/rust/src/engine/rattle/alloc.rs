@@ -3,30 +3,17 @@
 use std::fmt::Debug;
 use std::hash::Hash;
 
-/// What a collection takes its memory by. All memory is that of Rust's collections, and an
-/// allocator may refuse it.
-pub trait Allocator: Debug + Hash {
-    /// Whether a collection that needs more room may ask for it.
-    fn may_grow(&self) -> bool;
-}
+/// What stands for the allocator of the program. What is derived for a type that names one asks
+/// for the traits above this one.
+pub trait Allocator: Debug + Hash {}
 
-/// The allocator of the program, which alone decides what it gives.
+/// The allocator of the program.
 #[derive(Clone, Copy, Debug, Default, PartialEq, Eq, PartialOrd, Ord, Hash)]
 pub struct Global;
 
-impl Allocator for Global {
-    #[inline(always)]
-    fn may_grow(&self) -> bool {
-        true
-    }
-}
+impl Allocator for Global {}
 
-impl<A: Allocator> Allocator for &A {
-    #[inline(always)]
-    fn may_grow(&self) -> bool {
-        A::may_grow(self)
-    }
-}
+impl<A: Allocator> Allocator for &A {}
 
 /// Memory was refused, or more was asked for than a block can have.
 #[derive(Clone, Copy, Debug, PartialEq, Eq)]

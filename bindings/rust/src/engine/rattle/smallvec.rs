@@ -2,6 +2,7 @@
 
 use super::alloc::{AllocError, AllocFailed, Allocator, Global};
 use smallvec::{Array, CollectionAllocErr};
+use std::marker::PhantomData;
 use std::ops::{Deref, DerefMut};
 
 /// A vector that keeps up to `N` items in itself, and more than that in memory that may be refused.
@@ -11,7 +12,7 @@ where
     [T; N]: Array<Item = T>,
 {
     items: smallvec::SmallVec<[T; N]>,
-    alloc: A,
+    alloc: PhantomData<A>,
 }
 
 /// Returns the error of a growth that Rust's allocator refused.
@@ -25,9 +26,11 @@ where
 {
     /// Returns an empty vector. It takes no memory.
     #[inline]
-    pub fn new(alloc: A) -> Self {
-        let items = smallvec::SmallVec::new();
-        SmallVec { items, alloc }
+    pub fn new(_alloc: A) -> Self {
+        SmallVec {
+            items: smallvec::SmallVec::new(),
+            alloc: PhantomData,
+        }
     }
 
     /// Returns how many items it has room for.
@@ -65,9 +68,6 @@ where
     #[cold]
     #[inline(never)]
     fn grow(&mut self, additional: usize) -> Result<(), AllocError> {
-        if !self.alloc.may_grow() {
-            return Err(AllocError);
-        }
         self.items.try_reserve(additional).map_err(refused)
     }
 
@@ -80,9 +80,6 @@ where
     pub fn reserve_exact(&mut self, additional: usize) -> Result<(), AllocError> {
         if additional <= self.items.capacity() - self.items.len() {
             return Ok(());
-        }
-        if !self.alloc.may_grow() {
-            return Err(AllocError);
         }
         self.items.try_reserve_exact(additional).map_err(refused)
     }
@@ -155,8 +152,10 @@ where
     #[inline]
     pub fn from_slice(alloc: A, items: &[T]) -> Result<Self, AllocError> {
         if items.len() <= N {
-            let items = smallvec::SmallVec::from_slice(items);
-            return Ok(SmallVec { items, alloc });
+            return Ok(SmallVec {
+                items: smallvec::SmallVec::from_slice(items),
+                alloc: PhantomData,
+            });
         }
         let mut vec = SmallVec::new(alloc);
         vec.reserve_exact(items.len())?;

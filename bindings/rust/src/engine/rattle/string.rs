@@ -2,11 +2,12 @@
 
 use super::alloc::{AllocError, Allocator, Global};
 use std::fmt;
+use std::marker::PhantomData;
 
 /// A text that is owned.
 pub struct String<A: Allocator = Global> {
     text: std::string::String,
-    alloc: A,
+    alloc: PhantomData<A>,
 }
 
 impl<A: Allocator> String<A> {
@@ -16,15 +17,12 @@ impl<A: Allocator> String<A> {
     ///
     /// `AllocError`: memory was refused.
     #[inline]
-    pub fn from_str(alloc: A, text: &str) -> Result<Self, AllocError> {
+    pub fn from_str(_alloc: A, text: &str) -> Result<Self, AllocError> {
         let mut copy = std::string::String::new();
-        if !text.is_empty() {
-            if !alloc.may_grow() {
-                return Err(AllocError);
-            }
-            copy.try_reserve_exact(text.len()).map_err(|_| AllocError)?;
-            copy.push_str(text);
-        }
+        let reserved = copy.try_reserve_exact(text.len());
+        reserved.map_err(|_| AllocError)?;
+        copy.push_str(text);
+        let alloc = PhantomData;
         Ok(String { text: copy, alloc })
     }
 

@@ -2,20 +2,23 @@
 
 use super::alloc::{AllocError, AllocFailed, Allocator, Global};
 use std::fmt;
+use std::marker::PhantomData;
 use std::ops::{Deref, DerefMut};
 
 /// A vector whose growth may be refused. If it is, the vector is as it was.
 pub struct Vec<T, A: Allocator = Global> {
     items: std::vec::Vec<T>,
-    alloc: A,
+    alloc: PhantomData<A>,
 }
 
 impl<T, A: Allocator> Vec<T, A> {
     /// Returns an empty vector. It takes no memory.
     #[inline]
-    pub fn new(alloc: A) -> Self {
-        let items = std::vec::Vec::new();
-        Vec { items, alloc }
+    pub fn new(_alloc: A) -> Self {
+        Vec {
+            items: std::vec::Vec::new(),
+            alloc: PhantomData,
+        }
     }
 
     /// Returns an empty vector with room for `capacity` items.
@@ -26,13 +29,8 @@ impl<T, A: Allocator> Vec<T, A> {
     #[inline]
     pub fn with_capacity(alloc: A, capacity: usize) -> Result<Self, AllocError> {
         let mut vec = Vec::new(alloc);
-        if capacity > vec.items.capacity() {
-            if !vec.alloc.may_grow() {
-                return Err(AllocError);
-            }
-            let grown = vec.items.try_reserve_exact(capacity);
-            grown.map_err(|_| AllocError)?;
-        }
+        let reserved = vec.items.try_reserve_exact(capacity);
+        reserved.map_err(|_| AllocError)?;
         Ok(vec)
     }
 
@@ -59,9 +57,6 @@ impl<T, A: Allocator> Vec<T, A> {
     #[cold]
     #[inline(never)]
     fn grow(&mut self, additional: usize) -> Result<(), AllocError> {
-        if !self.alloc.may_grow() {
-            return Err(AllocError);
-        }
         self.items.try_reserve(additional).map_err(|_| AllocError)
     }
 
