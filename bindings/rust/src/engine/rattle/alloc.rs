@@ -1,6 +1,6 @@
 //! Allocators, and the errors of calls that are refused memory.
 
-use std::fmt::Debug;
+use std::fmt::{Debug, Formatter, Result};
 use std::hash::Hash;
 
 /// What stands for the allocator of the program. What is derived for a type that names one asks
@@ -20,10 +20,16 @@ impl<A: Allocator> Allocator for &A {}
 pub struct AllocError;
 
 /// Memory for a value was refused. The value comes back.
-#[derive(Clone, Copy, Debug, PartialEq, Eq)]
 pub struct AllocFailed<T> {
     /// The value.
     pub value: T,
+}
+
+/// Prints no value, which may have no `Debug`.
+impl<T> Debug for AllocFailed<T> {
+    fn fmt(&self, f: &mut Formatter<'_>) -> Result {
+        f.debug_struct("AllocFailed").finish_non_exhaustive()
+    }
 }
 
 impl<T> From<AllocFailed<T>> for AllocError {

@@ -31,6 +31,12 @@ impl<A: Allocator> String<A> {
     pub fn as_str(&self) -> &str {
         &self.text
     }
+
+    /// Returns the text as one of Rust. It is not copied.
+    #[inline]
+    pub fn into_std(self) -> std::string::String {
+        self.text
+    }
 }
 
 impl<A: Allocator> PartialEq for String<A> {

@@ -102,6 +102,12 @@ impl<T, A: Allocator> Vec<T, A> {
     pub fn as_mut_slice(&mut self) -> &mut [T] {
         &mut self.items
     }
+
+    /// Returns the vector as one of Rust. The items are not copied.
+    #[inline]
+    pub fn into_std(self) -> std::vec::Vec<T> {
+        self.items
+    }
 }
 
 impl<T: Copy, A: Allocator> Vec<T, A> {
