@@ -11,7 +11,7 @@ OWN_MODULES = frozenset({"alloc", "borrow"})
 SAME_MODULES = frozenset({"cmp", "fmt", "hash", "io", "marker", "mem", "ops", "str"})
 # What each file of Rattle has without an import, and Rust's has not: names, and the traits of
 # methods of a formatter.
-PRELUDE_NAMES = frozenset({"Drop", "String", "Vec", "vec"})
+PRELUDE_NAMES = frozenset({"String", "Vec", "vec"})
 FORMATTER_TRAITS = {"slice": "ListExt", "write": "FormatterExt"}
 
 ATTRIBUTES = frozenset({"cold", "default", "inline"})
@@ -77,7 +77,7 @@ class Reader:
         self.steps: Dict[str, Callable[[int], int]] = {
             "ghost": self.ghost, "requires": self.clause, "ensures": self.clause,
             "#": self.attribute, "impl": self.impl, "mod": self.module, "fmt": self.formatter,
-            ".": self.method, ",": self.writer, "W": self.writer,
+            ".": self.method, ",": self.writer, "W": self.writer, "Drop": self.bound,
         }
 
     # What stands where.
@@ -251,6 +251,14 @@ class Reader:
                     and all(re.fullmatch(r"\w+|[.:,]", part) for part in parts):
                 return
         raise self.refuse(opening, "a `drop` with an effect")
+
+    def bound(self, at: int) -> int:
+        """`: Drop` and `+ Drop`"""
+        if self.has(at - 1, "+") or self.has(at - 1, ":") and self.text(at + 1) in (",", ">", "{"):
+            return self.leave_out(at - 1, at + 1)
+        if self.has(at - 1, ":") and self.has(at + 1, "+"):
+            return self.leave_out(at, at + 2)
+        raise self.refuse(at, "`Drop` elsewhere than in a bound")
 
     def module(self, at: int) -> int:
         """`mod name;` of a module that is not needed"""

@@ -18,9 +18,4 @@ pub(crate) mod prelude {
     pub(crate) use super::fmt::{FormatterExt, ListExt};
     pub(crate) use super::string::String;
     pub(crate) use super::vec::{Vec, vec};
-
-    /// What every type is. In Rattle a value can be dropped only if its type is `Drop`.
-    pub trait Drop {}
-
-    impl<T: ?Sized> Drop for T {}
 }

@@ -6,7 +6,7 @@
 pub mod terms;
 
 use crate::engine::rattle::alloc::{AllocError, AllocFailed, Allocator, Global};
-use crate::engine::rattle::prelude::{Drop, FormatterExt, String};
+use crate::engine::rattle::prelude::{FormatterExt, String};
 use std::fmt;
 use std::ops::Range;
 
@@ -130,7 +130,7 @@ impl<A: Allocator> From<AllocError> for Failure<A> {
     }
 }
 
-impl<T: Drop, A: Allocator> From<AllocFailed<T>> for Failure<A> {
+impl<T, A: Allocator> From<AllocFailed<T>> for Failure<A> {
     fn from(_error: AllocFailed<T>) -> Failure<A> {
         Failure::Memory(AllocError)
     }

@@ -5,14 +5,13 @@
 
 mod kleene;
 
-use crate::engine::rattle::prelude::Drop;
 pub use kleene::Kleene64;
 
 /// Values with the operations of truth values.
 ///
 /// Every call returns, and the result depends only on the arguments. Nothing else is required: the
 /// operations need not be commutative, for example.
-pub trait Logic: Drop {
+pub trait Logic {
     /// The value of a conjunction of nothing.
     fn top() -> Self;
 

@@ -5,14 +5,14 @@
 
 use crate::engine::rattle::alloc::{AllocError, Allocator, Global};
 use crate::engine::rattle::borrow::CowSlice;
-use crate::engine::rattle::prelude::{Drop, Vec};
+use crate::engine::rattle::prelude::Vec;
 use std::cmp::Ordering;
 use std::fmt;
 use std::hash::{Hash, Hasher};
 
 /// A value that may be in a sorted list: values that compare as equal are the same, and contracts
 /// know what each prints.
-pub trait Member: Ord + Hash + fmt::Debug + fmt::Display + Drop {}
+pub trait Member: Ord + Hash + fmt::Debug + fmt::Display {}
 
 /// A sorted list, which may have repeats, borrowed for `'a` or owned in the allocator `A`.
 /// Contracts see the list of its members.
@@ -119,7 +119,7 @@ fn write_others<T: Member>(f: &mut fmt::Formatter, members: &[T]) -> fmt::Result
 
 // Returns the items in order. It pushes them one by one, since `collect` asks for less memory after
 // `alloc` refused a growth.
-fn sorted<T: Ord + Drop, A: Allocator, I: Iterator<Item = T>>(
+fn sorted<T: Ord, A: Allocator, I: Iterator<Item = T>>(
     alloc: A,
     items: I,
 ) -> Result<Vec<T, A>, AllocError> {

@@ -15,7 +15,7 @@ use crate::engine::cfgx_syntax::lexer::Lexer;
 use crate::engine::cfgx_syntax::logic::Kleene64;
 use crate::engine::cfgx_syntax::stripping::{Stripped, strip};
 use crate::engine::rattle::alloc::{AllocError, Global};
-use crate::engine::rattle::prelude::{Drop, Vec};
+use crate::engine::rattle::prelude::Vec;
 use std::{fmt, mem};
 
 /// A condition that borrows its nodes from an `Expression` or a `ConditionReader`. The text is that
@@ -83,7 +83,7 @@ impl<'a> Condition<'a> {
     pub fn eval_over<T, I, A>(&self, alloc: A, answers: I) -> Result<T, AllocError>
     where
         T: Logic,
-        I: Iterator<Item = T> + Drop,
+        I: Iterator<Item = T>,
         A: SmallAllocator,
     {
         evaluating::eval_over(alloc, self, answers)

@@ -22,7 +22,6 @@ use crate::engine::cfg_expr::memory::SmallAllocator;
 use crate::engine::cfgx_parser::nodes::ExprNode;
 use crate::engine::cfgx_syntax::logic::Logic;
 use crate::engine::rattle::alloc::{AllocError, Allocator};
-use crate::engine::rattle::prelude::Drop;
 use crate::engine::rattle::smallvec::SmallVec;
 use std::mem;
 
@@ -231,11 +230,7 @@ where
 }
 
 /// Puts the `answers` into the slots at `places`, until one of the two ends.
-fn put_each<T: Logic, I: Iterator<Item = T> + Drop>(
-    places: &[usize],
-    answers: I,
-    slots: &mut [Slot<T>],
-) {
+fn put_each<T: Logic, I: Iterator<Item = T>>(places: &[usize], answers: I, slots: &mut [Slot<T>]) {
     for (place, answer) in places.iter().zip(answers) {
         put_answer(answer, *place, slots);
     }
@@ -278,7 +273,7 @@ pub(crate) fn eval_over<T, I, A>(
 ) -> Result<T, AllocError>
 where
     T: Logic,
-    I: Iterator<Item = T> + Drop,
+    I: Iterator<Item = T>,
     A: SmallAllocator,
 {
     let nodes = condition.nodes();

@@ -8,7 +8,7 @@ use crate::engine::cfg_expr::expr::logic::Kleene64;
 use crate::engine::cfg_expr::expr::{Condition, TargetMatcher};
 use crate::engine::cfg_expr::memory::SmallAllocator;
 use crate::engine::rattle::alloc::{AllocError, Allocator};
-use crate::engine::rattle::prelude::{Drop, Vec};
+use crate::engine::rattle::prelude::Vec;
 
 /// At most 64 targets of the type `T`, which are asked together.
 pub(super) trait Batch<T> {
@@ -41,7 +41,7 @@ impl<M: TargetMatcher> Batch<M> for ByMatching<'_, M> {
 /// Evaluates the condition on each matcher, and pushes each value, converted to `V`, in order. For
 /// each batch of at most 64 matchers, the condition is evaluated once. Each matcher is asked each
 /// predicate on the target once.
-pub(super) fn push_values<A: SmallAllocator, M: TargetMatcher, V: From<Option<bool>> + Drop>(
+pub(super) fn push_values<A: SmallAllocator, M: TargetMatcher, V: From<Option<bool>>>(
     alloc: A,
     condition: &Condition<'_>,
     matchers: &[M],
@@ -57,7 +57,7 @@ pub(super) fn push_values<A: SmallAllocator, M: TargetMatcher, V: From<Option<bo
 }
 
 /// Evaluates the condition on each target of a batch, and pushes each value, converted to `V`.
-pub(super) fn push_batch<A: SmallAllocator, T, S: Batch<T>, V: From<Option<bool>> + Drop>(
+pub(super) fn push_batch<A: SmallAllocator, T, S: Batch<T>, V: From<Option<bool>>>(
     alloc: A,
     batch: &S,
     condition: &Condition<'_>,
@@ -83,7 +83,7 @@ fn ask_all<A: SmallAllocator, T, S: Batch<T>>(
 }
 
 /// Converts the values in the first `count` lanes to `V`, and pushes them.
-fn push_lanes<A: Allocator, V: From<Option<bool>> + Drop>(
+fn push_lanes<A: Allocator, V: From<Option<bool>>>(
     value: Kleene64,
     count: usize,
     values: &mut Vec<V, A>,
