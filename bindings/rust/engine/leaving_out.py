@@ -131,26 +131,32 @@ class Reader:
 
     def leave_out(self, begin: int, end: int) -> int:
         """Leaves out the tokens from a place to another, with the comments between them."""
-        for at in range(begin, end):
-            if self.has(at, "⟦", "<"):
-                self.unasked |= {self.text(at + 2), self.text(at + 4)}
-        first, last = self.code[begin], self.code[end - 1]
-        for index in range(first, last + 1):
-            self.kept[index] = ""
-        # The line goes too, if it has nothing else.
-        if self.begins_line(first) and self.tokens[last + 1].text.startswith("\n"):
-            self.kept[last + 1] = self.kept[last + 1][1:]
-        return end
+        return self.leave_out_from(self.code[begin], begin, end)
 
     def leave_out_with_comment(self, begin: int, end: int) -> int:
         """Leaves out tokens, and the comment right above them, which speaks of them."""
-        index = self.code[begin] - 1
-        while index > 0 and self.tokens[index].text.count("\n") == 1 \
-                and self.tokens[index - 1].kind == "comment" and self.begins_line(index - 1) \
-                and not self.tokens[index - 1].text.startswith("//!"):
-            self.kept[index] = self.kept[index - 1] = ""
-            index -= 2
-        return self.leave_out(begin, end)
+        first = self.code[begin]
+        while first > 1 and self.tokens[first - 1].text.count("\n") == 1 \
+                and self.tokens[first - 2].kind == "comment" and self.begins_line(first - 2) \
+                and not self.tokens[first - 2].text.startswith("//!"):
+            first -= 2
+        return self.leave_out_from(first, begin, end)
+
+    def leave_out_from(self, first: int, begin: int, end: int) -> int:
+        """Leaves out tokens, and what stands above them from an index among all tokens on."""
+        for at in range(begin, end):
+            if self.has(at, "⟦", "<"):
+                self.unasked |= {self.text(at + 2), self.text(at + 4)}
+        behind = self.code[end - 1] + 1
+        for index in range(first, behind):
+            self.kept[index] = ""
+        # The line goes too, if it has nothing else.
+        if self.begins_line(first) and self.tokens[behind:] and self.kept[behind][:1] == "\n":
+            if first == 0:
+                self.kept[behind] = self.kept[behind][1:]
+            else:
+                self.kept[first - 1] = self.kept[first - 1].rpartition("\n")[0]
+        return end
 
     def ghost(self, at: int) -> int:
         """`ghost use ..;`, `ghost name = {..};`, `ghost name: {..};` and `ghost name: {..},`"""
@@ -248,7 +254,7 @@ class Reader:
             behind = self.behind_pair(inner + 8)
             parts = [self.text(place) for place in range(inner + 9, behind - 1)]
             if self.has(behind, "=", "self", ";", "}") and behind + 4 == end \
-                    and all(re.fullmatch(r"\w+|[.:,]", part) for part in parts):
+                    and all(re.fullmatch(r"\w+|\.\.|[:,]", part) for part in parts):
                 return
         raise self.refuse(opening, "a `drop` with an effect")
 
