@@ -1,7 +1,7 @@
 //! The named values, the named lists, and the built-in targets.
 //!
-//! `bindings/targets/update` makes this file: the targets and the names from the tables in
-//! `bindings/targets/cfg-expr`, and the facts from `bindings/targets/targets.tsv`.
+//! `bindings/targets/update` makes this file: targets and names from the tables in
+//! `bindings/targets/cfg-expr`, and facts from `bindings/targets/targets.tsv`.
 
 use super::{Abi, Arch, Endian, Env, Families, Family, HasAtomic, HasAtomics, Os, Panic};
 use super::{TargetInfo, Triple, Vendor};

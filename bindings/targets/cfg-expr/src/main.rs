@@ -78,32 +78,23 @@ macro_rules! named_values {
 
 include!("names.rs");
 
-/// Returns a cell of the table: a text, or what stands for none.
-fn cell(text: Option<String>) -> Result<String, Box<dyn Error>> {
-    let text = text.unwrap_or_else(|| ABSENT.to_string());
-    let is_read_back = |word: &str| !word.is_empty() && !word.contains(char::is_whitespace);
-    match text.split(' ').all(is_read_back) {
-        true => Ok(text),
-        false => Err(format!("a table cannot have this text: {text:?}").into()),
+/// Returns the cell of a text, or an error if another one could be read from it.
+fn cell(text: String) -> Result<String, Box<dyn Error>> {
+    let is_word = |word: &str| !matches!(word, "" | ABSENT) && !word.contains(char::is_whitespace);
+    if text.split(' ').all(is_word) {
+        return Ok(text);
     }
+    Err(format!("a table cannot have this text: {text:?}").into())
 }
 
-/// Returns a field that a target has. It may not look as one that it lacks.
-fn present(text: String) -> Result<String, Box<dyn Error>> {
-    match text.as_str() {
-        "" | ABSENT => Err(format!("a table cannot have this text: {text:?}").into()),
-        _ => cell(Some(text)),
-    }
-}
-
-/// Returns a field that a target may lack.
+/// Returns the cell of a field that a target may lack.
 fn optional(field: Option<&impl Named>) -> Result<String, Box<dyn Error>> {
-    field.map_or_else(|| cell(None), |field| present(field.text()))
+    field.map_or_else(|| Ok(ABSENT.to_string()), |field| cell(field.text()))
 }
 
-/// Returns a list, which may be empty.
+/// Returns the cell of a list.
 fn list(list: &impl Named) -> Result<String, Box<dyn Error>> {
-    cell(Some(list.text()).filter(|text| !text.is_empty()))
+    optional(Some(list).filter(|list| !list.text().is_empty()))
 }
 
 /// Returns the cells of a target. It names each field, so it is not compiled if there are more.
@@ -126,17 +117,17 @@ fn cells_of(target: &TargetInfo) -> Result<[String; 11], Box<dyn Error>> {
         Endian::little => "little",
     };
     Ok([
-        present(triple.to_string())?,
+        cell(triple.to_string())?,
         optional(os.as_ref())?,
         optional(abi.as_ref())?,
-        present(arch.text())?,
+        cell(arch.text())?,
         optional(env.as_ref())?,
         optional(vendor.as_ref())?,
         list(families)?,
         pointer_width.to_string(),
         endian.to_string(),
         list(has_atomics)?,
-        present(panic.text())?,
+        cell(panic.text())?,
     ])
 }
 
@@ -160,7 +151,7 @@ fn main() -> Result<(), Box<dyn Error>> {
             );
             println!("type\tname\tvalue");
             for [field, name, text] in named_values() {
-                println!("{field}\t{name}\t{}", present(text)?);
+                println!("{field}\t{name}\t{}", cell(text)?);
             }
         }
         _ => return Err("usage: cfg-expr-rows targets|named".into()),
