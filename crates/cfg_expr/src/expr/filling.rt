@@ -16,7 +16,7 @@
 //! `not`.
 //!
 //! Each subtree has a node of its own, so there are never more entries than nodes. Both lists hold
-//! 33 entries inline, so for up to 33 nodes the lists take no memory.
+//! 36 entries inline, so for up to 36 nodes the lists take no memory.
 ghost use Rattle.std.specs.Prelude.{◌≡◌, ◌≤◌, ◌<◌, ◌+◌, ◌++◌, ◌∷◌, true, false, length};
 ghost use Rattle.std.specs.Prelude.{map, replicate, reverse, unwrap_or, List, OnErr, OnOk};
 ghost use Rattle.std.specs.Prelude.{vec_capacity};
@@ -38,7 +38,7 @@ use std::alloc::{AllocError, Allocator};
 fn push_repeated<A: SmallAllocator>(
     is_negated: bool,
     count: usize,
-    pending: &mut SmallVec<bool, 33, &A>,
+    pending: &mut SmallVec<bool, 36, &A>,
 ) -> Result<(), AllocError>
     ensures { OnOk result
         (reverse pending.new.items ≡ replicate count is_negated ++ reverse pending.old.items) }
@@ -53,8 +53,8 @@ fn push_repeated<A: SmallAllocator>(
 /// its members. Pushes to `negated` whether `node` is a predicate below an odd number of `not`.
 fn pass_node<A: SmallAllocator>(
     node: &ExprNode,
-    pending: &mut SmallVec<bool, 33, &A>,
-    negated: &mut SmallVec<bool, 33, &A>,
+    pending: &mut SmallVec<bool, 36, &A>,
+    negated: &mut SmallVec<bool, 36, &A>,
 ) -> Result<(), AllocError>
     requires { 0 < length pending.old.items }
     ensures one { OnOk result (length negated.new.items ≡ length negated.old.items + 1) }
@@ -62,7 +62,7 @@ fn pass_node<A: SmallAllocator>(
         → negated.new.items ++ pass rest (reverse pending.new.items)
         ≡ negated.old.items ++ pass (shape node.now ∷ rest) (reverse pending.old.items)) }
 {
-    // By the `requires`, there is an entry.
+    // There is an entry, since the caller pushed one.
     let is_negated = pending.pop().unwrap();
     match node {
         ExprNode::Fn(func) => {
@@ -80,8 +80,8 @@ fn pass_node<A: SmallAllocator>(
 /// number of `not`. `pending` is the stack of the pass, which begins empty.
 fn pass_nodes<A: SmallAllocator>(
     nodes: &[ExprNode],
-    pending: &mut SmallVec<bool, 33, &A>,
-    negated: &mut SmallVec<bool, 33, &A>,
+    pending: &mut SmallVec<bool, 36, &A>,
+    negated: &mut SmallVec<bool, 36, &A>,
 ) -> Result<(), AllocError>
     requires { IsPassed (map shape nodes.now) (false ∷ reverse pending.old.items) }
     ensures { OnOk result (negated.new.items
