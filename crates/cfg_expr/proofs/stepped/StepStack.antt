@@ -1,9 +1,9 @@
 -- Steps that are read with a stack leave what is folded of their tree on it.
 use Rattle.std.proofs.Common.{◌≡◌, ◌+◌, ◌≤◌, ◌<◌, ◌++◌, ℕ, suc, Bool, true, false, List, [], ◌∷◌}
-use Rattle.std.proofs.Common.{length, map, take, drop, Option, Some, None, option_and_then, ap}
-use Rattle.std.proofs.Common.{option_map, refl, sym, ◌∙◌, arith, append_assoc, length-append}
+use Rattle.std.proofs.Common.{length, take, drop, Option, Some, None, option_and_then, ap}
+use Rattle.std.proofs.Common.{refl, sym, ◌∙◌, arith, append_assoc, length-append}
 use Rattle.std.proofs.Common.{if◌then◌else◌}
-use Rattle.std.proofs.lemmas.{Bool.{le-leb, leb-true}, List.{drop_at, length-drop, take_at}}
+use Rattle.std.proofs.lemmas.{Bool.le-leb, List.{drop_at, length-drop, take_at}}
 use Rattle.std.proofs.lemmas.{List.append-nil, Option.slice_get-get_or}
 use Rattle.std.specs.{List.{filter_map, slice_get}, Prelude.nat_le}
 use Rattle.cfgx_grammar.specs.Tree.{ListFunction, Tree, Trees, asked, asked_by, count, is_function}
@@ -12,16 +12,16 @@ use Rattle.cfgx_grammar.proofs.ListLemmas.{all_of_first, all_of_second}
 use Rattle.cfgx_parser.specs.Order.{func_members, list_func}
 use Rattle.cfgx_parser.specs.declared.function.Func.{Func}
 use Rattle.cfgx_parser.specs.declared.function.Func.TheVariants.{Not}
-use Rattle.cfg_expr.specs.Fold.{Operations, answered, from_last, list_value, literal_value}
+use Rattle.cfg_expr.specs.Fold.{Operations, answered, from_last, literal_value}
 use Rattle.cfg_expr.specs.Fold.{tree_map, tree_value, trees_map, values_by}
 use Rattle.cfg_expr.specs.StepStack.{Algebra, Entry, JoinsInAnyOrder, after_step, after_steps}
 use Rattle.cfg_expr.specs.StepStack.{as_eval, as_written, folded, folded_each, from_first}
 use Rattle.cfg_expr.specs.StepStack.{of_function, of_leaf}
-use Rattle.cfg_expr.specs.Steps.{HasValue, answer_at, steps, steps_each, steps_of}
+use Rattle.cfg_expr.specs.Steps.{answer_at, numbered, steps, steps_each, steps_of}
 use Rattle.cfg_expr.specs.declared.expr.steps.Step.{Step}
 use Rattle.cfg_expr.specs.declared.expr.steps.Step.TheVariants.{Ask, Literal, Function}
 use Rattle.cfg_expr.proofs.stepped.Items.{Inside}
-use Rattle.cfg_expr.proofs.stepped.Numbers.{asked-numbered, given-numbered, numbers-inside}
+use Rattle.cfg_expr.proofs.stepped.Numbers.{given-numbered, numbers-inside}
 
 module _ {T S : Type 0} (logic : Operations T) (algebra : Algebra T S) (answers : List T) where
   abbrev given : Tree ℕ → Tree T
@@ -67,8 +67,12 @@ module _ {T S : Type 0} (logic : Operations T) (algebra : Algebra T S) (answers 
         (all_of_first _ (asked_by is_function trees) _ inside)
         (all_of_second _ (asked_by is_function trees) _ inside) rest stack left is in
         let func = list_func function (count trees) in
-        rw (below, count-given trees) (after-function func (folded_each algebra (given_each trees))
-        left (members-counted function (count trees) ∙ sym (length-folded_each trees)))
+        let members = folded_each algebra (given_each trees) in
+        ap (option_and_then (after_step algebra answers (Function func))) below
+        ∙ after-function func members left
+        (members-counted function (count trees) ∙ sym (length-folded_each trees))
+        ∙ ap (λ n. Some (algebra.function (list_func function n) members ∷ left))
+        (sym (count-given trees))
     after-tree (Tree.not tree) inside rest stack left is =
         rw (after-tree tree inside rest stack left is)
         (after-function Not (folded algebra (given tree) ∷ []) left refl)
@@ -87,9 +91,10 @@ module _ {T S : Type 0} (logic : Operations T) (algebra : Algebra T S) (answers 
     after-trees (Trees.more (Tree.literal truth) trees) inner own rest stack left is =
         rw (after-trees trees inner own rest stack left is) refl
     after-trees (Trees.more tree trees) inner own rest stack left is =
-        rw (append_assoc (steps tree) (steps_each trees) rest)
-        (after-tree tree (all_of_first _ (asked tree) _ inner) (steps_each trees ++ rest) stack _
-        (after-trees trees (all_of_second _ (asked tree) _ inner) own rest stack left is))
+        ap (λ l. after_steps algebra answers l stack)
+        (append_assoc (steps tree) (steps_each trees) rest)
+        ∙ after-tree tree (all_of_first _ (asked tree) _ inner) (steps_each trees ++ rest) stack _
+        (after-trees trees (all_of_second _ (asked tree) _ inner) own rest stack left is)
 
   -- a stack is not higher than that before it and the number of steps that were read
   height-step : (step : Step) (below stack : List S)
@@ -113,49 +118,57 @@ module _ {T S : Type 0} (logic : Operations T) (algebra : Algebra T S) (answers 
             ∷ drop (func_members func) below ≡ stack = cc (rw enough_is at is) in
             omega (arith, ap length stack_is, length-drop (func_members func) below)
 
-  pub height : (all : List Step) (stack left : List S)
+  height-more : (step : Step) (n : ℕ) (found : Option (List S)) (left : List S)
+      → ((below : List S) → found ≡ Some below → length below ≤ n)
+      → option_and_then (after_step algebra answers step) found ≡ Some left → length left ≤ 1 + n
+  height-more step n None left under is = absurd (cc (is))
+  height-more step n (Some below) left under is =
+      omega (arith, under below refl, height-step step below left is)
+
+  height : (all : List Step) (stack left : List S)
       → after_steps algebra answers all stack ≡ Some left
       → length left ≤ length all + length stack
   height [] stack left is =
       let same : stack ≡ left = cc (is) in omega (arith, ap length same)
-  height (step ∷ all) stack left is = by (after_steps algebra answers all stack) refl where
-    by : (found : Option (List S)) → after_steps algebra answers all stack ≡ found
-        → length left ≤ 1 + length all + length stack
-    by None found_is = absurd (cc (rw found_is at is))
-    by (Some below) found_is = omega (
-      arith,
-      height all stack below found_is,
-      height-step step below left (rw found_is at is),
-    )
+  height (step ∷ all) stack left is = omega (
+    arith,
+    height-more step (length all + length stack) (after_steps algebra answers all stack) left
+        (λ below found. height all stack below found) is,
+  )
 
   -- a stack that is left was left by the last steps too
-  stack-behind : (front rest : List Step) (stack left : List S)
+  left-below : (step : Step) (found : Option (List S)) (left : List S)
+      → option_and_then (after_step algebra answers step) found ≡ Some left
+      → (below : List S) × (found ≡ Some below)
+  left-below step None left is = absurd (cc (is))
+  left-below step (Some below) left is = (below, refl)
+
+  left-behind : (front rest : List Step) (stack left : List S)
       → after_steps algebra answers (front ++ rest) stack ≡ Some left
       → (below : List S) × (after_steps algebra answers rest stack ≡ Some below)
-  stack-behind [] rest stack left is = (left, is)
-  stack-behind (step ∷ front) rest stack left is =
-      by (after_steps algebra answers (front ++ rest) stack) refl where
-        by : (found : Option (List S)) → after_steps algebra answers (front ++ rest) stack ≡ found
-            → (below : List S) × (after_steps algebra answers rest stack ≡ Some below)
-        by None found_is = absurd (cc (rw found_is at is))
-        by (Some next) found_is = stack-behind front rest stack next found_is
+  left-behind [] rest stack left is = (left, is)
+  left-behind (step ∷ front) rest stack left is =
+      let next = left-below step (after_steps algebra answers (front ++ rest) stack) left is in
+      left-behind front rest stack next.0 next.1
 
   pub after-steps_of : {X : Type 0} (tree : Tree X) (stack : List S)
       → length answers ≡ length (asked tree)
       → after_steps algebra answers (steps_of tree) stack
       ≡ Some (folded algebra (answered logic.top tree answers) ∷ stack)
-  after-steps_of tree stack many = rw (← given-numbered logic tree answers many)
-      (ap (λ l. after_steps algebra answers l stack) (sym (append-nil (steps_of tree)))
-      ∙ after-tree _ (numbers-inside logic tree answers many) [] stack stack refl)
+  after-steps_of tree stack many =
+      ap (λ l. after_steps algebra answers l stack) (sym (append-nil (steps_of tree)))
+      ∙ after-tree (numbered tree) (numbers-inside logic tree answers many) [] stack stack refl
+      ∙ ap (λ given. Some (folded algebra given ∷ stack)) (given-numbered logic tree answers many)
 
   pub stack-of-rest : {X : Type 0} (tree : Tree X) (stack : List S) (front rest : List Step)
       → length answers ≡ length (asked tree) → steps_of tree ≡ front ++ rest
       → (left : List S) × (after_steps algebra answers rest stack ≡ Some left)
       × (length left ≤ length rest + length stack)
   stack-of-rest tree stack front rest many is =
-      let (left, found) = stack-behind front rest stack _
-      (rw (← is) (after-steps_of tree stack many)) in
-      (left, found, height rest stack left found)
+      let all = folded algebra (answered logic.top tree answers) ∷ stack in
+      let found = left-behind front rest stack all
+      (ap (λ l. after_steps algebra answers l stack) (sym is) ∙ after-steps_of tree stack many) in
+      (found.0, found.1, height rest stack found.0 found.1)
 
 module _ {T : Type 0} (logic : Operations T) where
   -- the entry of a tree
@@ -183,7 +196,12 @@ module _ {T : Type 0} (logic : Operations T) where
         let others = values-as_eval trees in (rw others.0 refl, rw others.1 refl)
     values-as_eval (Trees.more tree trees) =
         let others = values-as_eval trees in
-        (rw (folded-as_eval tree, others.0) refl, rw (folded-as_eval tree, others.1) refl)
+        let first = folded-as_eval tree in
+        let rest = folded_each (as_eval logic) trees in (
+          ap (λ entry. filter_map of_function (entry ∷ rest)) first
+              ∙ ap (λ values. tree_value logic tree ∷ values) others.0,
+          ap (λ entry. filter_map of_leaf (entry ∷ rest)) first ∙ others.1,
+        )
 
 module _ {T : Type 0} (join : T → T → T) (any_order : JoinsInAnyOrder join) where
   -- the value that is joined first may be joined last
@@ -213,13 +231,17 @@ module _ {T : Type 0} (join : T → T → T) (any_order : JoinsInAnyOrder join) 
       ≡ from_last join begin (values_by logic is_function trees ++ values_by logic is_leaf trees)
   any-order logic begin Trees.none = refl
   any-order logic begin (Trees.more (Tree.leaf answer) trees) =
-      from_first-join begin answer _ ∙ ap (λ x. join x answer) (any-order logic begin trees)
-      ∙ sym (from_last-join begin (values_by logic is_function trees) _ answer)
+      from_first-join begin answer (values_by logic (λ _. true) trees)
+      ∙ ap (λ x. join x answer) (any-order logic begin trees)
+      ∙ sym (from_last-join begin (values_by logic is_function trees)
+      (values_by logic is_leaf trees) answer)
   any-order logic begin (Trees.more (Tree.literal truth) trees) =
-      from_first-join begin _ _
+      from_first-join begin (literal_value logic truth) (values_by logic (λ _. true) trees)
       ∙ ap (λ x. join x (literal_value logic truth)) (any-order logic begin trees)
-      ∙ sym (from_last-join begin (values_by logic is_function trees) _ _)
-  any-order logic begin (Trees.more tree trees) = from_first-join begin (tree_value logic tree) _
+      ∙ sym (from_last-join begin (values_by logic is_function trees)
+      (values_by logic is_leaf trees) (literal_value logic truth))
+  any-order logic begin (Trees.more tree trees) =
+      from_first-join begin (tree_value logic tree) (values_by logic (λ _. true) trees)
       ∙ ap (λ x. join x (tree_value logic tree)) (any-order logic begin trees)
 
 module _ {T : Type 0} (logic : Operations T) (and : JoinsInAnyOrder logic.and)

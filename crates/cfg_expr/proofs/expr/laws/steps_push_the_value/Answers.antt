@@ -1,4 +1,4 @@
-use Rattle.std.proofs.Common.{◌∙◌, Some, ◌∷◌, ap}
+use Rattle.std.proofs.Common.{◌∙◌, Some, ◌∷◌, ap, refl}
 use Rattle.cfg_expr.specs.Fold.{answered, tree_fold}
 use Rattle.cfg_expr.specs.StepStack.{as_eval, as_written}
 use Rattle.cfg_expr.proofs.stepped.StepStack.{after-steps_of, entry_of, folded-as_eval}
