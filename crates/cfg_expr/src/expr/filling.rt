@@ -16,7 +16,7 @@
 //! `not`.
 //!
 //! Each subtree has a node of its own, so there are never more entries than nodes. Both lists hold
-//! 33 entries inline, so for up to 33 nodes the lists take no memory.
+//! 36 entries inline, so for up to 36 nodes the lists take no memory.
 ghost use Rattle.std.specs.Prelude.{◌≡◌, ◌≤◌, ◌<◌, ◌+◌, ◌++◌, ◌∷◌, true, false, length};
 ghost use Rattle.std.specs.Prelude.{map, replicate, reverse, unwrap_or, List, OnErr, OnOk};
 ghost use Rattle.std.specs.Prelude.{vec_capacity};
@@ -62,7 +62,7 @@ fn pass_node<A: SmallAllocator>(
         → negated.new.items ++ pass rest (reverse pending.new.items)
         ≡ negated.old.items ++ pass (shape node.now ∷ rest) (reverse pending.old.items)) }
 {
-    // By the `requires`, there is an entry.
+    // There is an entry, since the caller pushed one.
     let is_negated = pending.pop().unwrap();
     match node {
         ExprNode::Fn(func) => {
