@@ -385,8 +385,11 @@ pub fn write_fault<W: fmt::Write>(
     reason: Reason,
 ) -> fmt::Result
     ensures { DisplaysOnOk W.write_str_gives f.old result
-        (Some (error_text (fault_in original.now (record { cause = cause_of reason;
-        start = span.now.start; end = span.now.end })))) f.new }
+        (Some (error_text (fault_in original.now (record {
+          cause = cause_of reason;
+          start = span.now.start;
+          end = span.now.end;
+        })))) f.new }
 {
     f.write_str(original)?;
     f.write_str("\n")?;
