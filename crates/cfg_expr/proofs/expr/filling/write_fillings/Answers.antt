@@ -1,6 +1,8 @@
 -- The pass and the places give the fillings of the text's tree.
-use Rattle.std.proofs.Common.{◌∙◌, ap, rules, true, false}
+use Rattle.std.proofs.Common.{◌∙◌, ap, length, rules, true, false}
+use Rattle.cfgx_grammar.{proofs.Answering.only_tree, specs.Tree.asked}
 use Rattle.cfg_expr.specs.Filling.{filling_bytes}
+use Rattle.cfg_expr.proofs.Exactness.{IsExact-fold}
 use Rattle.cfg_expr.proofs.Parities.{text-filled, text-negated, text-passed}
 use Rattle.cfg_expr.proofs.evaluated.Placed.{answers-places}
 use Rattle.cfg_expr.proofs.expr.filling.write_fillings.Goals as goal
@@ -38,8 +40,11 @@ returns-clause-fillings g c =
     let is = text-filled c.nodes.result.now c.nodes.ensures.nodes c.places-places.ensures
     (c.as_slice-negated.ensures ∙ rw (c.new-negated.ensures.items, c.new-pending.ensures.items)
     at c.in_ok-pass_nodes.ensures) one c.args.answers.now in
+    let given = c.requires.answers in
+    let all = given.2 ∙ ap (λ tree. length (asked tree)) (only_tree one given.0 given.1) in
     record {
       one = one;
       true_is = c.write_filling.ensures ∙ ap filling_bytes (is true);
       false_is = c.write_filling-2.ensures ∙ ap filling_bytes (is false);
+      filled = (IsExact-fold one.tree c.args.answers.now all).filled;
     }
