@@ -1,0 +1,48 @@
+// Made of crates/cfgx_fields/src/text_key.rt
+// by bindings/rust/engine/make, which leaves its contracts out. Change it there.
+
+//! The keys of a target whose value is any text.
+
+/// A key of a target whose value is any text.
+#[derive(Clone, Copy, Debug, PartialEq, Eq)]
+pub enum TextKey {
+    /// `target_abi`
+    Abi,
+    /// `target_arch`
+    Arch,
+    /// `target_env`
+    Env,
+    /// `target_family`, which `unix` and `windows` ask for too
+    Family,
+    /// `target_os`
+    Os,
+    /// `panic`
+    Panic,
+    /// `target_vendor`
+    Vendor,
+}
+
+impl TextKey {
+    /// Returns the name of the key.
+    pub fn name(self) -> &'static str {
+        match self {
+            TextKey::Abi => "target_abi",
+            TextKey::Arch => "target_arch",
+            TextKey::Env => "target_env",
+            TextKey::Family => "target_family",
+            TextKey::Os => "target_os",
+            TextKey::Panic => "panic",
+            TextKey::Vendor => "target_vendor",
+        }
+    }
+
+    /// Returns the text of a target without this key, if a target may be without it.
+    pub fn text_if_missing(self) -> Option<&'static str> {
+        match self {
+            TextKey::Abi | TextKey::Env => Some(""),
+            TextKey::Os => Some("none"),
+            TextKey::Vendor => Some("unknown"),
+            TextKey::Arch | TextKey::Family | TextKey::Panic => None,
+        }
+    }
+}

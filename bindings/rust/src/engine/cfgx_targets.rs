@@ -1,0 +1,11 @@
+// Made of crates/cfgx_targets/src/lib.rt
+// by bindings/rust/engine/make, which leaves its contracts out. Change it there.
+
+//! Compilation targets, as the conditions of `cfg()` see them.
+
+pub mod atomics;
+pub mod builtins;
+pub mod families;
+pub mod info;
+pub mod list;
+pub mod table;
