@@ -138,9 +138,8 @@ impl fmt::Display for HasAtomic {
     }
 }
 
-/// The built-in targets, in the order of their triples: every target of the compiler that
-/// [`rustc_version`] names. A field is missing if this compiler prints no value for it, or `none`
-/// as the operating system.
+/// The built-in targets, in the order of their triples: those of `cfg-expr` 0.20.10, with the same
+/// fields.
 ///
 /// ```
 /// use cfgx::targets::{ALL_BUILTINS, Arch};
@@ -161,16 +160,17 @@ pub const ALL_BUILTINS: &[TargetInfo] = builtins::TARGETS;
 /// ```
 #[must_use]
 pub fn get_builtin_target_by_triple(triple: &str) -> Option<&'static TargetInfo> {
-    place_of(triple).map(|place| &ALL_BUILTINS[place])
+    place_in(ALL_BUILTINS, triple).map(|place| &ALL_BUILTINS[place])
 }
 
-/// Returns the place of the built-in target with this triple.
-fn place_of(triple: &str) -> Option<usize> {
-    let found = ALL_BUILTINS.binary_search_by(|target| target.triple.as_str().cmp(triple));
+/// Returns the place of the target with this triple in `targets`, which are in the order of their
+/// triples.
+fn place_in(targets: &[TargetInfo], triple: &str) -> Option<usize> {
+    let found = targets.binary_search_by(|target| target.triple.as_str().cmp(triple));
     found.ok()
 }
 
-/// Returns the version of the compiler whose targets are built in.
+/// Returns the version of the compiler whose targets are built in, as `cfg-expr` 0.20.10 names it.
 ///
 /// ```
 /// assert!(cfgx::targets::rustc_version().starts_with("1."));

@@ -56,17 +56,17 @@ macro_rules! item {
     };
 }
 
-/// Declares the built-in targets, in the order of their triples. `-` stands for a field or a list
-/// without a value. Behind the fields stand whether `debug_assertions` is printed, and the target
-/// features.
+/// Declares a list of targets, in the order of their triples, and one of what the compiler prints
+/// beside their fields. `-` stands for a field or a list without a value. Behind the fields stand
+/// whether `debug_assertions` is printed, and the target features.
 macro_rules! built_in {
-    ($(
+    ($targets:ident, $facts:ident: $(
         $triple:literal $os:tt $abi:tt $arch:ident $env:tt $vendor:tt $families:tt
         $pointer_width:literal $endian:ident $has_atomics:tt $panic:ident
         $has_assertions:literal $features:literal;
     )*) => {
         /// The targets.
-        pub(super) const TARGETS: &[TargetInfo] = &[$(TargetInfo {
+        pub(super) const $targets: &[TargetInfo] = &[$(TargetInfo {
             triple: Triple::new_const($triple),
             os: optional!(Os $os),
             abi: optional!(Abi $abi),
@@ -81,7 +81,7 @@ macro_rules! built_in {
         }),*];
 
         /// Whether the compiler prints `debug_assertions` for each target, and the target features.
-        pub(super) const OTHER_FACTS: &[(bool, &str)] = &[$(($has_assertions, $features)),*];
+        pub(super) const $facts: &[(bool, &str)] = &[$(($has_assertions, $features)),*];
     };
 }
 

@@ -78,5 +78,5 @@ fn the_documentation_has_the_differences_of_the_page() {
     let (table, _) = rest.split_once("\n\n").unwrap();
     let documented = fs::read_to_string(own.join("src/differences.txt")).unwrap();
     assert_eq!(first_cells(&documented), first_cells(table));
-    assert_eq!(first_cells(table).len(), 11);
+    assert_eq!(first_cells(table).len(), 8);
 }

@@ -46,7 +46,7 @@ pub mod targets {
 
 /// What the program prints over the stand-in, and over this crate.
 const OVER_STAND_IN: &str = "0 stand-in\n";
-const OVER_CFGX: &str = "2 1.95.0\n";
+const OVER_CFGX: &str = "2 1.99.0\n";
 
 /// Puts a package into the registry.
 fn publish(registry: &Path, name: &str, version: &str, rest: &str, code: &str) {

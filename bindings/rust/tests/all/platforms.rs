@@ -1,4 +1,4 @@
-//! `build.rs` for each target of rustc: which archive it links, where it looks for that, and what
+//! `build.rs` for each built-in target: which archive it links, where it looks for that, and what
 //! it says where there is none.
 
 use super::script::{self, NOT_FOUND, command_in, compiled, make_room, printed_by, told};
@@ -11,7 +11,7 @@ use std::process::Command;
 /// What is linked for a target without an archive.
 const NOT_SERVED: &str = "cfgx-has-no-archive-for-this-target-see-its-README";
 
-/// The archives in a package, and the targets that link each of them. Every other target of rustc
+/// The archives in a package, and the targets that link each of them. Every other built-in target
 /// has none.
 const SERVED: [(&str, &[&str]); 6] = [
     (
@@ -19,8 +19,11 @@ const SERVED: [(&str, &[&str]); 6] = [
         &[
             "x86_64-unknown-linux-gnu",
             "x86_64-unknown-linux-musl",
+            "x86_64-oe-linux-gnu",
             "x86_64-unikraft-linux-musl",
             "x86_64-unknown-linux-gnuasan",
+            "x86_64-unknown-linux-gnumsan",
+            "x86_64-unknown-linux-gnutsan",
             "x86_64-unknown-linux-none",
             "x86_64-unknown-linux-ohos",
         ],
@@ -30,7 +33,9 @@ const SERVED: [(&str, &[&str]); 6] = [
         &[
             "aarch64-unknown-linux-gnu",
             "aarch64-unknown-linux-musl",
+            "aarch64-oe-linux-gnu",
             "aarch64-unknown-linux-ohos",
+            "aarch64-unknown-linux-pauthtest",
         ],
     ),
     (
