@@ -4,7 +4,10 @@ use super::streams::Kept;
 use cfg_expr::error::laws::{expected_terms_have_a_number, faults_lie_in_their_text};
 use cfg_expr::error::{Failure, Reason};
 use cfg_expr::expr::Logic;
-use cfg_expr::expr::laws::{homomorphisms_keep_values, lanes_are_homomorphisms};
+use cfg_expr::expr::laws::{
+    homomorphisms_keep_values, lanes_are_homomorphisms, steps_are_read_with_a_stack,
+    steps_push_the_value,
+};
 use cfg_expr::expr::lexer::Lexer;
 use cfg_expr::expr::lexer::laws::{lexical_faults_lie_in_their_text, tokens_lie_in_order};
 use cfg_expr::expr::logic::Kleene64;
@@ -125,6 +128,8 @@ fn values_are_read_and_made(rt: HostRuntime) -> Result<(), &'static str> {
 fn call_laws() {
     homomorphisms_keep_values::<bool, Option<bool>>();
     lanes_are_homomorphisms();
+    steps_are_read_with_a_stack::<bool, usize>();
+    steps_push_the_value::<Option<bool>>();
     tokens_lie_in_order();
     lexical_faults_lie_in_their_text();
     faults_lie_in_their_text();
