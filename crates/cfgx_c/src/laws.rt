@@ -71,9 +71,9 @@ pub fn has_value_in_one_way()
         → HasValueByteOver text answers value → ¬ HasOtherCount text answers }
 {}
 
-/// A text is a condition, has a fault, or is not UTF-8: no two of these. So a fact is read or passed
-/// over, has a fault, or is not UTF-8. So a call that reads conditions and facts has one status but
-/// for memory.
+/// A text is a condition, has a fault, or is not UTF-8: no two of these. A fact is read or passed
+/// over, has a fault, or is not UTF-8: no two of these either. So a call that reads conditions and
+/// facts has one status but for memory.
 pub fn reads_in_one_way()
     ensures no_fault { (text : List ℕ) (fault : CfgxFault) → IsCondition text
         → ¬ HasFault text fault }

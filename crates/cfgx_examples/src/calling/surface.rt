@@ -16,7 +16,8 @@ use cfg_expr::targets::{Endian, Families, Family, HasAtomic, HasAtomicFailure, H
 use cfgx_engine::engine::laws::{has_an_output, has_one_output};
 use cfgx_engine::engine::streams::write_whole;
 use cfgx_fields::reading::{read_endian, read_has_atomic, read_u8, read_u16};
-use cfgx_parser::asked::laws::numbers_tell_what_is_asked;
+use cfgx_fields::text_key::laws::equal_keys_are_the_same;
+use cfgx_parser::asked::laws::{equal_asked_are_the_same, numbers_tell_what_is_asked};
 use cfgx_syntax::error::laws::{
     lists_have_different_numbers, numbers_name_the_reason, reasons_have_different_numbers,
 };
@@ -138,6 +139,8 @@ fn call_laws() {
     lists_have_different_numbers();
     numbers_name_the_reason();
     numbers_tell_what_is_asked();
+    equal_asked_are_the_same();
+    equal_keys_are_the_same();
     has_an_output();
     has_one_output();
 }
