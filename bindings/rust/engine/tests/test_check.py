@@ -17,7 +17,7 @@ class Check(Tree):
             write(self.path(NAME), text)
 
     def test_what_was_just_made(self):
-        self.assertRegex(self.assert_passes("check"), r"^\d{3} tokens of 7 files are those of their")
+        self.assertRegex(self.assert_passes("check"), r"^\d{3} tokens of 7 files are those of")
 
     def test_a_token_added(self):
         self.assert_found("self.number + 100", "self.number + 100 + 1")
@@ -59,7 +59,8 @@ class Check(Tree):
         self.assert_found("use std::fmt;\n", "use std::io as fmt;\n")
         self.assert_found("{Allocator, Global}", "{Allocator, AllocError as Global}")
         self.assert_found("rattle::alloc", "rattle::borrow")
-        self.assert_found("use std::fmt;\n", "use std::fmt;\nuse crate::engine::rattle::prelude::Vec;\n")
+        self.assert_found("use std::fmt;\n", "use crate::engine::rattle::prelude::Vec;\n"
+                          "use std::fmt;\n")
         self.assert_found("use std::fmt;\n", "use std::fmt;\nuse std::marker::Model as Clone;\n")
 
     def test_paths(self):
@@ -82,5 +83,5 @@ class Check(Tree):
 
     def test_comments_and_layout_are_not_looked_at(self):
         self.change(NAME, "/// A fault.", "/// Fault.")
-        self.change(NAME, "Some(true) => self.number + 100,", "Some(true) => {\nself.number + 100 }")
+        self.change(NAME, "=> self.number + 100,", "=> {\nself.number + 100 }")
         self.assert_passes("check")

@@ -90,8 +90,9 @@ class Check(Tree):
         self.assert_passes("make", "--check")
 
     def test_a_file_that_changed(self):
-        for old, new in (("100", "101"), (" + ", " - "), ("FormatterExt, ", ""), ("100,\n", "100\n"),
-                         ("/// A fault.", "/// Fault."), ("error.rt", "other.rt")):
+        for old, new in (("100", "101"), (" + ", " - "), ("FormatterExt, ", ""),
+                         ("100,\n", "100\n"), ("/// A fault.", "/// Fault."),
+                         ("error.rt", "other.rt")):
             with self.subTest(old):
                 self.change("cfgx_syntax/error.rs", old, new)
                 self.assert_stale("cfgx_syntax/error.rs")

@@ -10,15 +10,16 @@ macro_rules! named_values {
                 pub const $name: $field = $field::new_const($text);
             )*
 
-            /// Returns the predicate that asks for the named value with this text.
-            pub(crate) fn predicate_of(
-                text: &[u8],
-            ) -> Option<&'static $crate::expr::Predicate<'static>> {
-                use $crate::expr::{Predicate, TargetPredicate};
+            /// Returns what is known of the named value with these bytes.
+            pub(crate) fn named(text: &[u8]) -> Option<&'static $crate::expr::Named> {
+                use $crate::expr::{Named, Predicate, TargetPredicate};
                 $(const $name: &[u8] = $text.as_bytes();)*
                 match text {
                     $($name => Some(const {
-                        &Predicate::Target(TargetPredicate::$field($field::$name))
+                        &Named {
+                            predicate: Predicate::Target(TargetPredicate::$field($field::$name)),
+                            text: $text,
+                        }
                     }),)*
                     _ => None,
                 }

@@ -1,7 +1,6 @@
 //! The real conditions of `bench/conditions.txt`, which a target decides.
 
-use super::rows::table;
-use super::{engine, programs};
+use super::programs;
 use cfgx::targets::{TargetInfo, builtin_facts, get_builtin_target_by_triple};
 use cfgx::{Expression, Otherwise, Predicate, audit_with};
 use std::fs::{self, File};
@@ -22,25 +21,6 @@ fn value_on(text: &str, target: &TargetInfo) -> bool {
         Predicate::Target(asked) => asked.matches(target),
         other => panic!("{other:?} of {text}"),
     })
-}
-
-/// Panics unless each condition has the value on a target that the program prints.
-fn check(conditions: &str, triple: &str) {
-    let target = get_builtin_target_by_triple(triple).unwrap();
-    for text in conditions.lines() {
-        let printed = engine::run(&["target", triple, text]);
-        let value = value_on(text, target);
-        assert_eq!((0, format!("{value}\n")), printed, "{text}");
-    }
-}
-
-#[test]
-fn each_has_the_value_that_the_program_prints() {
-    let conditions = conditions();
-    let triples = &table("triples.txt", "all built-in targets")[0][0];
-    for triple in triples.split(' ') {
-        check(&conditions, triple);
-    }
 }
 
 /// Returns the values that Cargo gave: each target with those of the conditions in order. The file
@@ -102,7 +82,7 @@ fn printed_by_the_example(input: &str) -> String {
     let file = room.join("input");
     fs::write(&file, input).unwrap();
     let own = Path::new(env!("CARGO_MANIFEST_DIR"));
-    let output = programs::cargo_on_own(own, &["run", "--quiet", "--example", "values"])
+    let output = programs::cargo(own, &["run", "--quiet", "--example", "values"])
         .env("CARGO_TARGET_DIR", &room)
         .stdin(File::open(file).unwrap())
         .output()
@@ -114,7 +94,8 @@ fn printed_by_the_example(input: &str) -> String {
 #[test]
 fn the_example_prints_the_values_on_macos() {
     let conditions = conditions();
-    let value = |text| engine::run(&["target", "aarch64-apple-darwin", text]).1;
+    let target = get_builtin_target_by_triple("aarch64-apple-darwin").unwrap();
+    let value = |text| format!("{}\n", value_on(text, target));
     let values: String = conditions.lines().map(value).collect();
     let input = conditions + "not(test)\nfoo (\n";
     let fault = "foo (\n    ^ expected one of `=`, `,`, `)` here\n";

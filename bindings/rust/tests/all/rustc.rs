@@ -1,7 +1,7 @@
 //! Every target of the `rustc` on the path: what it meets, that its facts are built in, and that it
 //! is built in as this compiler describes it.
 
-use super::{child, engine};
+use super::{child, model};
 use cfgx::expr::Predicate;
 use cfgx::targets::{ALL_BUILTINS, Rustc, builtin_facts, get_builtin_target_by_triple};
 use cfgx::{Expression, Facts, audit};
@@ -52,7 +52,7 @@ fn lines_of(facts: &Facts) -> Vec<&str> {
         .collect()
 }
 
-/// Panics unless what each target meets is what the engine answers by the facts of the target.
+/// Panics unless what each target meets is what its facts answer by the model.
 fn check(rustc: &Rustc, triples: &[String]) {
     let expression = Expression::parse(CONDITION).unwrap();
     let values = audit(std::slice::from_ref(&expression), rustc.facts()).unwrap();
@@ -65,8 +65,8 @@ fn check(rustc: &Rustc, triples: &[String]) {
                 _ => None,
             })
             .collect();
-        assert_eq!(met, engine::answers(CONDITION, &lines), "{}", target.triple);
-        assert_eq!(values.value(0, place), engine::value(CONDITION, &met));
+        assert_eq!(met, model::answers(CONDITION, &lines), "{}", target.triple);
+        assert_eq!(values.value(0, place), model::value(CONDITION, &met));
         assert_eq!(rustc.target(&triples[place]), Some(target));
     }
 }

@@ -1,6 +1,6 @@
 //! The built-in targets, and what targets meet.
 
-use super::engine;
+use super::model;
 use super::rows::table;
 use cfgx::error::Reason;
 use cfgx::expr::{Predicate, TargetPredicate};
@@ -68,24 +68,20 @@ fn conditions() -> Vec<String> {
     conditions
 }
 
-/// A target meets one value at most of most keys, so its fields are those of the engine's row.
+/// A target meets one value at most of most keys, so its fields are those that its facts name.
 #[test]
-fn the_five_rows_meet_what_the_program_says() {
+fn the_five_rows_meet_what_their_facts_answer_by_the_model() {
     let conditions = conditions();
     assert_eq!(targets_of_the_engine().len(), 5);
     for target in targets_of_the_engine() {
+        let facts = builtin_facts(target.triple.as_str()).unwrap();
+        let facts: Vec<&str> = facts.iter().collect();
         for text in &conditions {
             let expression = Expression::parse(text).unwrap();
-            let value = match value_on(&expression, target) {
-                Some(value) => format!("{value}\n"),
-                None => String::from("unknown\n"),
-            };
-            let triple = target.triple.as_str();
-            assert_eq!(
-                engine::run(&["target", triple, text]),
-                (0, value),
-                "{triple} {text}"
-            );
+            if let Some(value) = value_on(&expression, target) {
+                let answers = model::answers(text, &facts);
+                assert_eq!(answers, [Some(value)], "{} {text}", target.triple);
+            }
         }
     }
 }

@@ -19,7 +19,7 @@
 //! `not`.
 //!
 //! Each subtree has a node of its own, so there are never more entries than nodes. Both lists hold
-//! 33 entries inline, so for up to 33 nodes the lists take no memory.
+//! 36 entries inline, so for up to 36 nodes the lists take no memory.
 
 use super::{Condition, Decision, Func, evaluating};
 use crate::engine::cfg_expr::memory::SmallAllocator;
@@ -47,7 +47,7 @@ fn pass_node<A: SmallAllocator>(
     pending: &mut SmallVec<bool, 36, &A>,
     negated: &mut SmallVec<bool, 36, &A>,
 ) -> Result<(), AllocError> {
-    // By the `requires`, there is an entry.
+    // There is an entry, since the caller pushed one.
     let is_negated = pending.pop().unwrap();
     match node {
         ExprNode::Fn(func) => {
