@@ -1,6 +1,6 @@
 -- The pass over the nodes and the places of the predicates give the polar fillings.
-use Rattle.std.proofs.Common.{◌≡◌, ℕ, zero, suc, ◌+◌, Bool, true, false, not, List, [], ◌∷◌, ◌++◌, map}
-use Rattle.std.proofs.Common.{◌<◌, arith, length, length-append}
+use Rattle.std.proofs.Common.{◌≡◌, ℕ, zero, suc, ◌+◌, Bool, true, false, not, List, [], ◌∷◌, ◌++◌}
+use Rattle.std.proofs.Common.{◌<◌, arith, length, length-append, map}
 use Rattle.std.proofs.Common.{replicate, Option, None, sym, refl, ap, ◌∙◌, append_assoc, map-id}
 use Rattle.std.specs.List.{AllByRecursion}
 use Rattle.std.proofs.lemmas.{Slice.Zip.AllZip-map, List.append-nil}
@@ -79,7 +79,8 @@ module _ {X : Type 0} where
   -- tree is as before, and so is the parity there.
   mutual
     pass-tree : (tree : Tree X) (odd end : Bool) (after : List Bool) (rest : List Shape)
-        → pass (map shape_of (prefix tree) ++ rest) (end ∷ (replicate (below tree) false ++ after)) odd
+        → pass (map shape_of (prefix tree) ++ rest)
+        (end ∷ (replicate (below tree) false ++ after)) odd
         ≡ negated (turned odd end) tree ++ pass rest after (turned odd end)
     pass-tree (Tree.list ListFunction.all trees) odd end after rest =
         ap (λ l. false ∷ l) (pass-each trees (turned odd end) after rest)
@@ -107,7 +108,8 @@ module _ {X : Type 0} where
           append_assoc (replicate (length (prefix tree)) false),
           length-below tree,
         )
-        (rw (pass-tree tree odd false, pass-each trees odd, map-append negated_in, append_assoc) refl)
+        (rw (pass-tree tree odd false, pass-each trees odd, map-append negated_in, append_assoc)
+        refl)
 
 -- The polarities for `fill` are those for false, or their opposites if `fill` is true.
 

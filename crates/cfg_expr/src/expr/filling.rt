@@ -10,11 +10,11 @@
 //! is true with any, and false with the second if it is false with any.
 //!
 //! One pass over the nodes makes the list `negated`, which says of each node whether it is a
-//! predicate below an odd number of `not`. The node of a `not` has the length of its subtree, so the
-//! pass knows where the `not` ends. Until it reaches an entry, this says whether an odd number of
-//! `not` ends in front of the node. Up to 33 entries are inline and take no memory.
-ghost use Rattle.std.specs.Prelude.{◌≡◌, ◌≤◌, ◌<◌, ◌∷◌, true, false, drop, get_or, length, map, not};
-ghost use Rattle.std.specs.Prelude.{set, unwrap_or, vec_capacity, List, IfOk, OnErr, OnOk};
+//! predicate below an odd number of `not`. The node of a `not` has the length of its subtree, so
+//! the pass knows where the `not` ends. Until it reaches an entry, this says whether an odd number
+//! of `not` ends in front of the node. Up to 33 entries are inline and take no memory.
+ghost use Rattle.std.specs.Prelude.{◌≡◌, ◌≤◌, ◌<◌, ◌∷◌, true, false, drop, get_or, length, map};
+ghost use Rattle.std.specs.Prelude.{not, set, unwrap_or, vec_capacity, List, IfOk, OnErr, OnOk};
 ghost use Rattle.std.specs.List.{AllByRecursion};
 ghost use Rattle.cfg_expr.specs.Given.{AreAnswersTo};
 ghost use Rattle.cfgx_grammar.specs.Answer.{HasOneTree};
@@ -39,8 +39,8 @@ fn turn(entries: &mut [bool], place: usize)
 }
 
 /// Takes the step of the pass at `node`, to which the first of `entries` belongs, and the others to
-/// the nodes behind it. `is_odd` says whether `node` is below an odd number of `not`, if none ends in
-/// front of it. Returns the same for the next node.
+/// the nodes behind it. `is_odd` says whether `node` is below an odd number of `not`, if none ends
+/// in front of it. Returns the same for the next node.
 fn pass_node(node: &ExprNode, is_odd: bool, entries: &mut [bool]) -> bool
     requires { 0 < length entries.old }
     ensures len { length entries.new ≡ length entries.old }
