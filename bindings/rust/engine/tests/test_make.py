@@ -5,7 +5,7 @@ from .trees import ERROR, Tree
 
 MADE = """\
 // Made of crates/cfgx_syntax/src/error.rt
-// by bindings/rust/engine/make, which leaves its contracts out. Change it there.
+// by bindings/rust/engine/make, which leaves its contracts out. Nobody edits this file.
 
 //! Faults.
 

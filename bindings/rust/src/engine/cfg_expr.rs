@@ -1,5 +1,5 @@
 // Made of crates/cfg_expr/src/lib.rt
-// by bindings/rust/engine/make, which leaves its contracts out. Change it there.
+// by bindings/rust/engine/make, which leaves its contracts out. Nobody edits this file.
 
 //! Conditions of Rust's `#[cfg(..)]`: parses them, lists their predicates and evaluates them.
 

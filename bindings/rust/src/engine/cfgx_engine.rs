@@ -1,5 +1,5 @@
 // Made of crates/cfgx_engine/src/lib.rt
-// by bindings/rust/engine/make, which leaves its contracts out. Change it there.
+// by bindings/rust/engine/make, which leaves its contracts out. Nobody edits this file.
 
 //! The engine of the program cfgx: its commands and its streams, and the verdicts on sections.
 

@@ -1,5 +1,5 @@
 // Made of crates/cfgx_fields/src/lib.rt
-// by bindings/rust/engine/make, which leaves its contracts out. Change it there.
+// by bindings/rust/engine/make, which leaves its contracts out. Nobody edits this file.
 
 //! The field types of a target, with their named values, and how the values of its keys are read.
 //!

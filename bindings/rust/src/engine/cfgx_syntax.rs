@@ -1,5 +1,5 @@
 // Made of crates/cfgx_syntax/src/lib.rt
-// by bindings/rust/engine/make, which leaves its contracts out. Change it there.
+// by bindings/rust/engine/make, which leaves its contracts out. Nobody edits this file.
 
 //! The tokens of a `cfg()` text, its faults, the values that it can have, and the allocators of
 //! expressions.

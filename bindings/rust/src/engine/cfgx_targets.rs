@@ -1,5 +1,5 @@
 // Made of crates/cfgx_targets/src/lib.rt
-// by bindings/rust/engine/make, which leaves its contracts out. Change it there.
+// by bindings/rust/engine/make, which leaves its contracts out. Nobody edits this file.
 
 //! Compilation targets, as the conditions of `cfg()` see them.
 

@@ -181,5 +181,5 @@ steps-written {T = T} form nodes {ps} kept found =
     ∙ map-map (λ s. form (shape_step s)) shape_of (prefix numbers) in
     rw (written, asks, places_are)
     (placed (λ node. form (node_step node)) open_step (form (Literal true)) (λ truth. refl)
-    (λ func. refl) numbers)
+    (λ func len. refl) numbers)
     ∙ sym (map-map form node_step (prefix numbers)) ∙ ap (map form) (steps-nodes numbers)

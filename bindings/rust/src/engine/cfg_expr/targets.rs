@@ -1,5 +1,5 @@
 // Made of crates/cfg_expr/src/targets.rt
-// by bindings/rust/engine/make, which leaves its contracts out. Change it there.
+// by bindings/rust/engine/make, which leaves its contracts out. Nobody edits this file.
 
 //! Targets, their fields, and tables of them.
 

@@ -1,5 +1,5 @@
 // Made of crates/cfgx_engine/src/resolve.rt
-// by bindings/rust/engine/make, which leaves its contracts out. Change it there.
+// by bindings/rust/engine/make, which leaves its contracts out. Nobody edits this file.
 
 //! Sections of a manifest, each with a condition, and what a target says of them.
 

@@ -1,5 +1,5 @@
 // Made of crates/cfgx_fields/src/field.rt
-// by bindings/rust/engine/make, which leaves its contracts out. Change it there.
+// by bindings/rust/engine/make, which leaves its contracts out. Nobody edits this file.
 
 //! The type behind all field types: a borrowed or owned text with its kind.
 

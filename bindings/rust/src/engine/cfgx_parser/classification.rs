@@ -1,5 +1,5 @@
 // Made of crates/cfgx_parser/src/classification.rt
-// by bindings/rust/engine/make, which leaves its contracts out. Change it there.
+// by bindings/rust/engine/make, which leaves its contracts out. Nobody edits this file.
 
 //! What a key and its value say, or what is wrong with them and where.
 

@@ -1,5 +1,5 @@
 // Made of crates/cfgx_parser/src/parser.rt
-// by bindings/rust/engine/make, which leaves its contracts out. Change it there.
+// by bindings/rust/engine/make, which leaves its contracts out. Nobody edits this file.
 
 //! The parser: from a text to the nodes of its tree, in one pass.
 

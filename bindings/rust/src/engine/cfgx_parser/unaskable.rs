@@ -1,5 +1,5 @@
 // Made of crates/cfgx_parser/src/unaskable.rt
-// by bindings/rust/engine/make, which leaves its contracts out. Change it there.
+// by bindings/rust/engine/make, which leaves its contracts out. Nobody edits this file.
 
 //! Whether a text is a key, or a key with a value, of which the key is at fault.
 

@@ -1,5 +1,5 @@
 // Made of crates/cfgx_syntax/src/error.rt
-// by bindings/rust/engine/make, which leaves its contracts out. Change it there.
+// by bindings/rust/engine/make, which leaves its contracts out. Nobody edits this file.
 
 //! What is wrong with a cfg text, where, and how it prints.
 

@@ -1,5 +1,5 @@
 // Made of crates/cfgx_syntax/src/lexer.rt
-// by bindings/rust/engine/make, which leaves its contracts out. Change it there.
+// by bindings/rust/engine/make, which leaves its contracts out. Nobody edits this file.
 
 //! The tokens of a `cfg()` text, with the bytes that spell them.
 

@@ -1,5 +1,5 @@
 // Made of crates/cfgx_syntax/src/logic.rt
-// by bindings/rust/engine/make, which leaves its contracts out. Change it there.
+// by bindings/rust/engine/make, which leaves its contracts out. Nobody edits this file.
 
 //! The values that answers to predicates can have, and how `all`, `any` and `not` combine them.
 

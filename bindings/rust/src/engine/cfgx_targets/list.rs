@@ -1,5 +1,5 @@
 // Made of crates/cfgx_targets/src/list.rt
-// by bindings/rust/engine/make, which leaves its contracts out. Change it there.
+// by bindings/rust/engine/make, which leaves its contracts out. Nobody edits this file.
 
 //! Sorted lists.
 

@@ -59,7 +59,7 @@ where
     }
 
     /// Whether there is room for one more item.
-    #[inline]
+    #[inline(always)]
     fn has_room(&self) -> bool {
         self.items.len() < self.items.capacity()
     }
@@ -76,7 +76,8 @@ where
     /// # Errors
     ///
     /// `AllocError`: memory was refused.
-    #[inline]
+    // As calls, this and `push_reserved` would add a tenth to the instructions of an evaluation.
+    #[inline(always)]
     pub fn reserve_exact(&mut self, additional: usize) -> Result<(), AllocError> {
         if additional <= self.items.capacity() - self.items.len() {
             return Ok(());
@@ -103,7 +104,7 @@ where
     /// # Panics
     ///
     /// There is no room, which is a mistake of the caller.
-    #[inline]
+    #[inline(always)]
     pub fn push_reserved(&mut self, value: T) {
         assert!(self.has_room(), "no room was reserved");
         self.items.push(value);

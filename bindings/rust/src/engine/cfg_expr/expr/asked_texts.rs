@@ -1,5 +1,5 @@
 // Made of crates/cfg_expr/src/expr/asked_texts.rt
-// by bindings/rust/engine/make, which leaves its contracts out. Change it there.
+// by bindings/rust/engine/make, which leaves its contracts out. Nobody edits this file.
 
 //! What predicates ask, with their texts, by which they are compared.
 

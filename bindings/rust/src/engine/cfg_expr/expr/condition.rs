@@ -1,5 +1,5 @@
 // Made of crates/cfg_expr/src/expr/condition.rt
-// by bindings/rust/engine/make, which leaves its contracts out. Change it there.
+// by bindings/rust/engine/make, which leaves its contracts out. Nobody edits this file.
 
 //! Borrowed conditions, and a reader that reads one condition after another.
 

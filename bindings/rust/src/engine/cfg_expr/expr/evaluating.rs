@@ -1,5 +1,5 @@
 // Made of crates/cfg_expr/src/expr/evaluating.rt
-// by bindings/rust/engine/make, which leaves its contracts out. Change it there.
+// by bindings/rust/engine/make, which leaves its contracts out. Nobody edits this file.
 
 //! Evaluation of a condition in any `Logic`. In those of `Option<bool>` and of the 64 lanes of
 //! `Kleene64`, an answer may be unknown: they are Kleene's strong logic.

@@ -1,5 +1,5 @@
 // Made of crates/cfg_expr/src/expr/filling.rt
-// by bindings/rust/engine/make, which leaves its contracts out. Change it there.
+// by bindings/rust/engine/make, which leaves its contracts out. Nobody edits this file.
 
 //! Decides a condition when some answers to its predicates may be unknown. The decision is the
 //! value of the condition or, if that is unknown, two fillings: a filling has a truth value for

@@ -1,5 +1,5 @@
 // Made of crates/cfg_expr/src/expr/predicates.rt
-// by bindings/rust/engine/make, which leaves its contracts out. Change it there.
+// by bindings/rust/engine/make, which leaves its contracts out. Nobody edits this file.
 
 //! The predicates of a condition, and the iterator over them.
 

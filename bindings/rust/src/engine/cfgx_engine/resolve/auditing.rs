@@ -1,5 +1,5 @@
 // Made of crates/cfgx_engine/src/resolve/auditing.rt
-// by bindings/rust/engine/make, which leaves its contracts out. Change it there.
+// by bindings/rust/engine/make, which leaves its contracts out. Nobody edits this file.
 
 //! The values of a condition on many targets. One evaluation in 64 lanes serves up to 64 of them.
 

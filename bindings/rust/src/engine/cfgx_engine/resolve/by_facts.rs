@@ -1,5 +1,5 @@
 // Made of crates/cfgx_engine/src/resolve/by_facts.rt
-// by bindings/rust/engine/make, which leaves its contracts out. Change it there.
+// by bindings/rust/engine/make, which leaves its contracts out. Nobody edits this file.
 
 //! The values of many conditions on many targets that answer by their facts.
 

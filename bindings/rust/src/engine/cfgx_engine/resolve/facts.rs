@@ -1,5 +1,5 @@
 // Made of crates/cfgx_engine/src/resolve/facts.rt
-// by bindings/rust/engine/make, which leaves its contracts out. Change it there.
+// by bindings/rust/engine/make, which leaves its contracts out. Nobody edits this file.
 
 //! Facts of a target, and what they answer to predicates.
 

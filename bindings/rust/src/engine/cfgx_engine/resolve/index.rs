@@ -1,5 +1,5 @@
 // Made of crates/cfgx_engine/src/resolve/index.rt
-// by bindings/rust/engine/make, which leaves its contracts out. Change it there.
+// by bindings/rust/engine/make, which leaves its contracts out. Nobody edits this file.
 
 //! What the facts of at most 64 targets say of predicates, in sorted lists. A binary search finds a
 //! predicate for all of these targets at once.

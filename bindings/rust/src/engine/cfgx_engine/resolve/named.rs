@@ -1,5 +1,5 @@
 // Made of crates/cfgx_engine/src/resolve/named.rt
-// by bindings/rust/engine/make, which leaves its contracts out. Change it there.
+// by bindings/rust/engine/make, which leaves its contracts out. Nobody edits this file.
 
 //! The predicates that facts name, sorted, so that a binary search finds one.
 

@@ -1,5 +1,5 @@
 // Made of crates/cfgx_fields/src/builtins/vendors.rt
-// by bindings/rust/engine/make, which leaves its contracts out. Change it there.
+// by bindings/rust/engine/make, which leaves its contracts out. Nobody edits this file.
 
 //! The named vendors.
 

@@ -1,5 +1,5 @@
 // Made of crates/cfgx_syntax/src/lexer/bytes.rt
-// by bindings/rust/engine/make, which leaves its contracts out. Change it there.
+// by bindings/rust/engine/make, which leaves its contracts out. Nobody edits this file.
 
 //! Classes of bytes, and runs of bytes.
 

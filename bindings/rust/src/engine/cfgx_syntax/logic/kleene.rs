@@ -1,5 +1,5 @@
 // Made of crates/cfgx_syntax/src/logic/kleene.rt
-// by bindings/rust/engine/make, which leaves its contracts out. Change it there.
+// by bindings/rust/engine/make, which leaves its contracts out. Nobody edits this file.
 
 //! Sixty-four answers that may be unknown, joined all at once.
 

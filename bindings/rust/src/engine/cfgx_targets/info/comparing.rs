@@ -1,5 +1,5 @@
 // Made of crates/cfgx_targets/src/info/comparing.rt
-// by bindings/rust/engine/make, which leaves its contracts out. Change it there.
+// by bindings/rust/engine/make, which leaves its contracts out. Nobody edits this file.
 
 //! The equality and the order of targets.
 

@@ -1,23 +1,24 @@
-use Rattle.std.proofs.lemmas.List.{take_all, take_more}
+use Rattle.std.proofs.lemmas.List.{take_all}
 use Rattle.cfgx_engine.specs.Facts.{FactTexts, IsAnswer}
-use Rattle.cfgx_engine.proofs.ValueLemmas.{AreValues-more, AreValues-none}
+use Rattle.cfgx_engine.proofs.ValueLemmas.{AreValues-next, AreValues-none}
 use Rattle.cfgx_engine.proofs.resolve.by_facts.audit_conditions.Goals as goal
 
-pub loop-index-init : goal.loop-index-init
-loop-index-init g c = rw c.new-values.ensures.items
+pub loop-condition-init : goal.loop-condition-init
+loop-condition-init g c = rw c.new-values.ensures.items
     (AreValues-none (λ (facts : FactTexts). IsAnswer facts c.args.otherwise) _)
 
 -- the values of one condition more
-pub loop-index-preserved : goal.loop-index-preserved
-loop-index-preserved g c = rw (take_more c.args.conditions.now c.loop-index.index _
-    c.loop-index-test.true) (AreValues-more
-    (λ (facts : FactTexts). IsAnswer facts c.args.otherwise) _ _ _ _ _ c.loop-index.invariant
-    c.in_ok-push_batches.ensures)
+pub loop-condition-preserved : goal.loop-condition-preserved
+loop-condition-preserved g c =
+    AreValues-next (λ (facts : FactTexts). IsAnswer facts c.args.otherwise) _
+    c.args.conditions.now c.loop-condition.condition-index c.condition-item.result _ _
+    c.loop-condition-test.true c.loop-condition.invariant
+    (rw c.condition-item.is at c.in_ok-push_batches.ensures)
 
 -- no condition is left
 pub returns : goal.returns
 returns g c = rw (
-  take_all _ _ c.loop-index-test.false,
+  take_all _ _ c.loop-condition-test.false,
   c.as_slice-batches.ensures.value,
-  c.in_ok-indexed_batches.ensures,
-) at c.loop-index.invariant
+  c.in_ok-batches.ensures,
+) at c.loop-condition.invariant
