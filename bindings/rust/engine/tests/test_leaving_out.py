@@ -108,7 +108,7 @@ class Clauses(Case):
         self.check_refused("fn f()\n\n ensures { a ] {}", "closes another bracket", 3)
         self.check_refused("fn f() ensures { a ", "never closed")
         self.check_refused("fn f()\n ensures { a -- of antt\n } {}", "a comment", 2)
-        self.check_refused("fn f() ensures { a /* } */ } {}", "a comment")
+        self.check_refused("fn f() ensures { a /* b */ } {}", "a comment")
         self.check_refused("fn f() { while a invariant { b } {} }", "`invariant`")
 
 
