@@ -16,10 +16,10 @@ FORMATTER_TRAITS = {"slice": "ListExt", "write": "FormatterExt"}
 
 ATTRIBUTES = frozenset({"cold", "default", "inline"})
 MACROS = frozenset({"matches", "unreachable", "write"})
-# Words that Rust has not, or whose meaning differs, or that the engine does without.
-REFUSED_WORDS = frozenset({
-    "also_owns", "also_shares", "async", "await", "decreases", "dyn", "extern", "invariant",
-    "macro_rules", "static", "union", "unsafe",
+# What Rust has not, or means otherwise, or what the engine does without.
+REFUSED = frozenset({
+    "\"", "'", "/*", "Box", "also_owns", "also_shares", "async", "await", "decreases", "dyn",
+    "extern", "invariant", "macro_rules", "static", "union", "unsafe",
 })
 # Methods that take memory. In Rattle each returns a `Result`, and in Rust it ends the process.
 REFUSED_METHODS = frozenset({
@@ -36,7 +36,7 @@ TOKEN = re.compile(r"""
   | (?P<lifetime>'[A-Za-z_]\w*)
   | (?P<number>[0-9]\w*)
   | (?P<word>[^\W\d]\w*)
-  | (?P<mark>::|->|=>|\.\.=?|.)
+  | (?P<mark>::|->|=>|\.\.=?|/\*|.)
     """, re.VERBOSE | re.DOTALL)
 
 
@@ -77,7 +77,8 @@ class Reader:
         self.steps: Dict[str, Callable[[int], int]] = {
             "ghost": self.ghost, "requires": self.clause, "ensures": self.clause,
             "#": self.attribute, "impl": self.impl, "mod": self.module, "fmt": self.formatter,
-            ".": self.method, ",": self.writer, "W": self.writer, "Drop": self.bound,
+            ",": self.writer, "W": self.writer, "Drop": self.bound, ".": self.method,
+            "::": self.method,
         }
 
     # What stands where.
@@ -147,6 +148,8 @@ class Reader:
         for at in range(begin, end):
             if self.has(at, "⟦", "<"):
                 self.unasked |= {self.text(at + 2), self.text(at + 4)}
+            if self.has(at, "-", "-") or self.text(at) == "/*":
+                raise self.refuse(at, "a comment that is none of Rust's lines")
         behind = self.code[end - 1] + 1
         for index in range(first, behind):
             self.kept[index] = ""
@@ -294,10 +297,12 @@ class Reader:
     # What is looked at, and what is rewritten.
 
     def method(self, at: int) -> int:
-        """A call of a method, which may not be one that takes memory"""
-        if self.text(at + 1) in REFUSED_METHODS and self.text(at + 2) in ("(", "::"):
-            raise self.refuse(at + 1, f"the method `{self.text(at + 1)}` takes memory in Rust")
-        self.called.add(self.text(at + 1))
+        """A method or a field, or what follows `::`. No method may take memory"""
+        name = self.text(at + 1)
+        is_called = self.has(at, "::") or self.text(at + 2) in ("(", "::")
+        if name in REFUSED_METHODS and is_called and not self.has(at - 1, "mem", "::", "replace"):
+            raise self.refuse(at + 1, f"the method `{name}` takes memory in Rust")
+        self.called.add(name)
         return at + 1
 
     def macro(self, at: int) -> int:
@@ -341,11 +346,12 @@ class Reader:
         text = self.text(at)
         if text in self.steps:
             return self.steps[text](at)
-        if text in REFUSED_WORDS:
+        if text in REFUSED:
             raise self.refuse(at, f"`{text}` is not known")
         if not text.isascii() and self.tokens[self.code[at]].kind != "literal":
             raise self.refuse(at, f"`{text}` is no code")
-        if self.is_word(at) and self.has(at + 1, "!") and self.text(at + 2) in PAIRS:
+        if self.is_word(at) and self.has(at + 1, "!") and self.text(at + 2) in PAIRS \
+                and self.code[at] + 1 == self.code[at + 1]:
             return self.macro(at)
         if self.is_word(at) and self.has(at + 1, "::"):
             return self.path(at)

@@ -107,6 +107,8 @@ class Clauses(Case):
         self.check_refused("fn f() ensures { a } decreases { b } {}", "behind a clause")
         self.check_refused("fn f()\n\n ensures { a ] {}", "closes another bracket", 3)
         self.check_refused("fn f() ensures { a ", "never closed")
+        self.check_refused("fn f()\n ensures { a -- of antt\n } {}", "a comment", 2)
+        self.check_refused("fn f() ensures { a /* b */ } {}", "a comment")
         self.check_refused("fn f() { while a invariant { b } {} }", "`invariant`")
 
 
@@ -254,18 +256,23 @@ class RefusedForms(Case):
                 self.check_refused(f"fn f() {{\n {call} }}", "the macro", 2)
         self.check_refused("macro_rules! a { () => {} }", "`macro_rules`")
         self.check_kept("fn f() { matches!(a, b) && write!(f, \"{c}\") || unreachable!() }\n")
+        self.check_kept("fn f() { if !(a && b) { return !(a != (b)); } }\n")
 
     def test_methods_that_take_memory(self):
         for call in ("a.clone()?", "a.clone()", "a.replace(alloc, b, c)", "a.to_string()",
-                     "a.to_vec()", "a.collect::<B>()", "a.to_owned()", "a.concat()", "a.repeat(2)"):
+                     "a.to_vec()", "a.collect::<B>()", "a.to_owned()", "a.concat()", "a.repeat(2)",
+                     "Clone::clone(a)", "a.map(str::to_string)", "str::replace(a, b, c)"):
             with self.subTest(call):
                 self.check_refused(f"fn f() {{ {call} }}", "takes memory in Rust")
-        self.check_kept("fn f() { mem::replace(a, b); a.try_clone(b)?; a.copied() }\n")
+        self.check_kept("fn f() { mem::replace(a, b); a.try_clone(b)?; a.copied(); a.clone }\n")
 
     def test_words(self):
         for text in ("unsafe fn f() {}", "extern fn f() {}", "static A: u8 = 1;", "union A {}",
-                     "async fn f() {}", "fn f(a: &dyn A) {}", "unsafe impl A for B {}"):
-            self.check_refused(text, "is not known")
+                     "async fn f() {}", "fn f(a: &dyn A) {}", "unsafe impl A for B {}",
+                     "fn f() -> Box<A> {}", "fn f() { \"a }", "/* a */ fn f() {}",
+                     "fn f(a: 'é) {}"):
+            with self.subTest(text):
+                self.check_refused(text, "is not known")
 
     def test_what_is_not_ascii(self):
         self.check_refused("fn f() {\n a ≡ b }", "`≡` is no code", 2)

@@ -165,6 +165,21 @@ fn from_slice_copies() {
 }
 
 #[test]
+fn from_elem_repeats_an_item() {
+    for count in 0..3 {
+        let (growths, vec) = growths_of(|| Two::from_elem(Global, 7, count));
+        assert_eq!(growths, 0);
+        assert!(is(&vec.unwrap(), &[7, 7][..count], 2));
+    }
+    let (growths, vec) = growths_of(|| Two::from_elem(Global, 7, 3));
+    assert_eq!(growths, 1);
+    assert!(is(&vec.unwrap(), &[7, 7, 7], 3));
+    let refused = refusing(0, || Two::from_elem(Global, 7, 3).map(|_| ()));
+    assert_eq!(refused, Err(AllocError));
+    assert!(Two::from_elem(Global, 7, usize::MAX).is_err());
+}
+
+#[test]
 fn extend_from_slice_appends() {
     let mut vec = of(&[1]);
     assert_eq!(growths_of(|| vec.extend_from_slice(&[2])), (0, Ok(())));

@@ -164,6 +164,25 @@ where
         Ok(vec)
     }
 
+    /// Returns a vector with `count` copies of `item`. Up to `N` of them take no memory.
+    ///
+    /// # Errors
+    ///
+    /// `AllocError`: memory was refused.
+    #[inline]
+    pub fn from_elem(alloc: A, item: T, count: usize) -> Result<Self, AllocError> {
+        if count <= N {
+            return Ok(SmallVec {
+                items: smallvec::SmallVec::from_elem(item, count),
+                alloc: PhantomData,
+            });
+        }
+        let mut vec = SmallVec::new(alloc);
+        vec.reserve_exact(count)?;
+        vec.items.resize(count, item);
+        Ok(vec)
+    }
+
     /// Appends copies of `items`.
     ///
     /// # Errors
