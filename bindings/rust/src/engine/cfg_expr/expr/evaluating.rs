@@ -162,7 +162,7 @@ impl<T: Logic> Stack<'_, T> {
                 self.push(answer);
             }
             ExprNode::Literal(truth) => self.push(Slot::Leaf(literal_value(*truth))),
-            ExprNode::Fn(func) => self.apply(*func)?,
+            ExprNode::Fn { func, .. } => self.apply(*func)?,
         }
         Some(())
     }

@@ -159,8 +159,8 @@ pub fn audit_conditions<A: SmallAllocator>(
     let mut values = Vec::new(alloc);
     let batches = indexed_batches(alloc, targets)?;
     let batches = batches.as_slice();
-    for index in 0..conditions.len() {
-        push_batches(alloc, batches, otherwise, &conditions[index], &mut values)?;
+    for condition in conditions {
+        push_batches(alloc, batches, otherwise, condition, &mut values)?;
     }
     Ok(values)
 }
