@@ -65,6 +65,7 @@ impl<A: SmallAllocator> NodeWriter<A> {
     ghost use Rattle.cfgx_parser.specs.nodes.NodeWriter.{written_of, KeepsNodes};
 
     /// Returns a writer that has written nothing of a text of `len` bytes.
+    #[inline(always)]
     pub(crate) fn new(alloc: A, len: usize) -> Self
         ensures { written_of result ≡ nothing }
     {
