@@ -34,7 +34,8 @@ pub(crate) use format;
 macro_rules! println {
     ($rt:expr; $($text:tt)*) => {{
         let HostRuntime = $rt;
-        std::io::Write::write_fmt(&mut std::io::stdout(), format_args!("{}\n", format_args!($($text)*)))
+        std::println!($($text)*);
+        std::io::Result::Ok(())
     }};
 }
 pub(crate) use println;
