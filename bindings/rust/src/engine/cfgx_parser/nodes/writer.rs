@@ -56,6 +56,7 @@ pub(crate) struct NodeWriter<A: SmallAllocator> {
 
 impl<A: SmallAllocator> NodeWriter<A> {
     /// Returns a writer that has written nothing of a text of `len` bytes.
+    #[inline(always)]
     pub(crate) fn new(alloc: A, len: usize) -> Self {
         NodeWriter {
             nodes: SmallVec::new(alloc),
