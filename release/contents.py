@@ -10,8 +10,7 @@ from repository import (
 )
 from stamp import PLATFORMS as LIBRARIES
 from targets import (
-    ARM_LINUX, ARM_MAC, ELF, FAMILIES, PLATFORMS, WASM_32, WINDOWS_GNU, X86_LINUX, X86_MAC,
-    Platform,
+    ARM_LINUX, ARM_MAC, ELF, FAMILIES, WASM_32, WINDOWS_GNU, X86_LINUX, X86_MAC, Platform,
 )
 
 Files = Dict[str, File]
@@ -187,20 +186,15 @@ def c_files(family: str) -> Files:
 
 
 def rust_files() -> Files:
-    """Returns the files of the archive for Rust: the crate `cfgx`, with the library for each
-    platform inside, and in its folder the package `cfg-expr`. Each of both packages has the
-    licences."""
+    """Returns the files of the archive for Rust: the crate `cfgx`, and in its folder the package
+    `cfg-expr`. Each of both packages has the licences."""
     top = "bindings/rust/"
-    parts = ("Cargo.toml", "LICENSES", "build.rs", "src", "cfg-expr")
+    parts = ("Cargo.toml", "src", "cfg-expr")
     sources = tracked(*(top + path for path in parts))
     sources = [path for path in sources if not path.endswith(".gitignore")]
     code = {path[len(top):]: File(read(path)) for path in sources}
-    libraries = {
-        f"lib/{platform.triple}/{platform.archive}": library(platform, platform.archive)
-        for platform in PLATFORMS if platform.archive
-    }
     told = pages(RUST_README, {RUST_README: README, README: MOVED})
-    return {**code, **libraries, **licenses(), **licenses("cfg-expr/"), **told}
+    return {**code, **licenses(), **licenses("cfg-expr/"), **told}
 
 
 def javascript_files() -> Files:

@@ -9,6 +9,7 @@
 //! many nanoseconds each call takes for a line, at best. `memory` parses a long text, and prints
 //! how many megabytes of memory and of addresses the process took at most.
 
+use cfgx::expr::lexer::Lexer;
 use cfgx::targets::{ALL_BUILTINS, TargetInfo, get_builtin_target_by_triple};
 use cfgx::{Expression, ParseError, Predicate};
 use std::error::Error;
@@ -65,6 +66,13 @@ fn sweep_all(expressions: &[Expression], targets: &[TargetInfo]) -> Vec<Option<b
     expressions.iter().flat_map(values_of).collect()
 }
 
+/// Lists the tokens of a condition. Each of them is used as a whole. Returns how many there are.
+#[inline(never)]
+fn lex_one(text: &str) -> usize {
+    let tokens = Lexer::new(text).map(black_box);
+    tokens.filter(|token| token.is_ok()).count()
+}
+
 /// Clones a condition.
 #[inline(never)]
 fn clone_one(expression: &Expression) -> Expression {
@@ -84,6 +92,7 @@ fn measure_each(lines: &str, target: &TargetInfo) {
             black_box(evaluate_one(&expression, target));
             black_box(weigh_one(&expression, target));
             black_box(list_one(&expression));
+            black_box(lex_one(line));
             drop(black_box(clone_one(&expression)));
             drop_one(expression);
         }
@@ -107,8 +116,9 @@ fn time_of(call: impl FnOnce()) -> u128 {
 }
 
 /// Returns how many nanoseconds calls of each kind take for all lines together: to parse, to
-/// evaluate over `bool` and over `Option<bool>`, to list predicates, to clone and to drop.
-fn times_of(lines: &[&str], target: &TargetInfo) -> [u128; 6] {
+/// evaluate over `bool` and over `Option<bool>`, to list predicates, to list tokens, to clone and to
+/// drop.
+fn times_of(lines: &[&str], target: &TargetInfo) -> [u128; 7] {
     let mut parsed = Vec::with_capacity(lines.len());
     let mut cloned = Vec::with_capacity(lines.len());
     let parse = time_of(|| parsed.extend(lines.iter().flat_map(|line| parse_one(line))));
@@ -122,15 +132,18 @@ fn times_of(lines: &[&str], target: &TargetInfo) -> [u128; 6] {
     let list = time_each(&|one| {
         black_box(list_one(one));
     });
+    let lex = time_of(|| {
+        black_box(lines.iter().map(|line| lex_one(line)).sum::<usize>());
+    });
     let clone = time_of(|| cloned.extend(parsed.iter().map(clone_one)));
     let drop = time_of(|| drop(cloned));
-    [parse, evaluate, weigh, list, clone, drop]
+    [parse, evaluate, weigh, list, lex, clone, drop]
 }
 
 /// Prints how many nanoseconds each call takes for a line, at best. No line may be faulty.
 fn print_times(lines: &str, target: &TargetInfo) {
     let lines: Vec<&str> = lines.lines().collect();
-    let mut best = [u128::MAX; 6];
+    let mut best = [u128::MAX; 7];
     for _ in 0..ROUNDS {
         let times = times_of(&lines, target);
         best = std::array::from_fn(|place| best[place].min(times[place]));

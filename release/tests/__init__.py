@@ -31,15 +31,6 @@ FAMILIES = (
     ("aarch64-macos", ("aarch64-apple-darwin",)),
 )
 
-# The archives that the crate has: the folder, the file, and what it is for.
-ARCHIVES = (
-    ("x86_64-unknown-linux-gnu", "libcfgx.a", "Linux x86_64"),
-    ("aarch64-unknown-linux-gnu", "libcfgx.a", "Linux arm64"),
-    ("x86_64-pc-windows-gnu", "libcfgx.a", "Windows x86_64"),
-    ("x86_64-pc-windows-msvc", "cfgx.lib", "Windows x86_64"),
-    ("x86_64-apple-darwin", "libcfgx.a", "macOS x86_64"),
-    ("aarch64-apple-darwin", "libcfgx.a", "macOS arm64"),
-)
 # The wheels: the systems in their names, the library, the folder of `out/platforms` from which it
 # is, and what it is for.
 WHEELS = (
@@ -119,6 +110,9 @@ class User(unittest.TestCase):
         rustup = os.environ.get("RUSTUP_HOME") or os.path.expanduser("~/.rustup")
         if os.path.isdir(rustup):
             self.variables["RUSTUP_HOME"] = rustup
+        # Where `.ci/crates` tells Cargo of the crates that it fetched, in place of a registry.
+        if "CARGO_HOME" in os.environ:
+            self.variables["CARGO_HOME"] = os.environ["CARGO_HOME"]
 
     def runs(self, tool):
         """Returns whether a tool runs here."""
@@ -129,6 +123,12 @@ class User(unittest.TestCase):
         for tool in tools:
             if not self.runs(tool):
                 self.skipTest(f"{untested}, since {tool} does not run here")
+
+    def need_crates(self, untested):
+        """Skips a test, and says what is not tested, if the crates that `cfgx` depends on are not
+        here."""
+        if "CARGO_HOME" not in self.variables:
+            self.skipTest(f"{untested}, since the crates that it depends on are not here")
 
     def run_words(self, *words, **variables):
         """Runs a program in the folder. Returns its status and what it prints."""

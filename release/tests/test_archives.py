@@ -10,8 +10,8 @@ import unittest
 import zipfile
 
 from . import (
-    ARCHIVES, C, DATA, INFORMATION, LICENSE, LICENSES, RUST, SONAME, VERSION, WHEEL,
-    files_of, files_of_wheel, machines, path_of,
+    C, DATA, INFORMATION, LICENSE, LICENSES, RUST, SONAME, VERSION, WHEEL,
+    files_of, files_of_wheel, path_of,
 )
 
 import repository
@@ -36,8 +36,6 @@ METADATA_FIELDS = (
     ("Description-Content-Type", ["text/markdown"]),
 )
 
-# The platform of this machine.
-HERE = "x86_64-unknown-linux-gnu"
 # The manual page of the command, and what shells read to complete its words: bash as its package
 # `bash-completion` says, fish in a folder for vendors, and zsh where `fpath` has its functions.
 MANUAL = f"{DATA}/data/share/man/man1/cfgx-deps.1"
@@ -96,10 +94,9 @@ class Archives(unittest.TestCase):
               if path.endswith((".c", ".h"))]
         top = "bindings/rust/"
         code = [path[len(top):] for path in repository.tracked(
-            *(top + path for path in ("src", "cfg-expr", "Cargo.toml", "build.rs"))
+            *(top + path for path in ("src", "cfg-expr", "Cargo.toml"))
         )]
         rust = [path for path in code if ".gitignore" not in path]
-        rust += [f"lib/{folder}/{name}" for folder, name, _ in ARCHIVES]
         for name, wanted in ((C, c), (RUST, rust)):
             found = {path[len(name) + 1:] for path in files_of(name)}
             others = {path for path in found
@@ -109,7 +106,7 @@ class Archives(unittest.TestCase):
 
     def test_the_code_is_that_of_the_commit(self):
         files, top = files_of(RUST), "bindings/rust/"
-        for path in repository.tracked(top + "src", top + "cfg-expr/src", top + "build.rs"):
+        for path in repository.tracked(top + "src", top + "cfg-expr/src"):
             self.assertEqual(files[f"{RUST}/{path[len(top):]}"], repository.read(path), path)
         files, top = files_of(C), "crates/cfgx_c/"
         for path in (*repository.tracked(top + "include"), top + "examples/cfgx.c"):
@@ -125,16 +122,14 @@ class Archives(unittest.TestCase):
         with zipfile.ZipFile(path_of(WHEEL)) as archive:
             inside = archive.read(f"cfgx/{SONAME}")
         self.assertEqual(inside, repository.read(f"out/cfgx/lib/libcfgx.so.{VERSION}"))
-        found = files_of(C)[f"{C}/lib/libcfgx.a"], files_of(RUST)[f"{RUST}/lib/{HERE}/libcfgx.a"]
-        self.assertEqual({*found}, {repository.read("out/cfgx/lib/libcfgx.a")})
+        found = files_of(C)[f"{C}/lib/libcfgx.a"]
+        self.assertEqual(found, repository.read("out/cfgx/lib/libcfgx.a"))
 
-    def test_the_archives_of_the_crate(self):
-        """Each is for the platform after which its folder is named."""
-        files = files_of(RUST)
-        for folder, name, machine in ARCHIVES:
-            data = files[f"{RUST}/lib/{folder}/{name}"]
-            self.assertEqual(data, repository.read(f"out/platforms/{folder}/{name}"))
-            self.assertEqual(machines.machine_of(data), machine, folder)
+    def test_the_crate_has_no_library(self):
+        """It is text alone, but for the pictures of its pages."""
+        for path, data in files_of(RUST).items():
+            if not path.endswith(".png"):
+                self.assertNotIn(b"\0", data, path)
 
 
 class Licenses(unittest.TestCase):
@@ -169,7 +164,7 @@ class Licenses(unittest.TestCase):
         files, = re.findall(r"^license-files = \[(.*)\]$", project, re.M)
         self.assertEqual(re.findall(r'"(.*?)"', files), list(LICENSES))
         crate = files_of(RUST)[f"{RUST}/Cargo.toml"].decode()
-        self.assertIn(f'\nlicense = "{LICENSE}"\n', crate)
+        self.assertIn('\nlicense = "MIT OR Apache-2.0"\n', crate)
 
     def test_the_kit_in_both_texts(self):
         """The text for the licence field says of what is compiled what NOTICE says of it."""

@@ -9,7 +9,7 @@ import unittest
 import zlib
 
 from . import (
-    ARCHIVES, C, FAMILIES, FOLDER, PACKAGE, RUST, VERSION, WHEELS, c_for, files_in, files_of_wheel,
+    C, FAMILIES, FOLDER, PACKAGE, RUST, VERSION, WHEELS, c_for, files_in, files_of_wheel,
     path_of, wheel_for,
 )
 
@@ -26,7 +26,6 @@ ENGINES = [
     *(f"{c_for(family)}/lib/{name}" for family in ("x86_64-macos", "aarch64-macos")
       for name in ("libcfgx.a", "libcfgx.dylib")),
     *(f"cfgx/{library}" for _, library, *_ in WHEELS),
-    *(f"{RUST}/lib/{folder}/{name}" for folder, name, _ in ARCHIVES),
     "package/src/cfgx.wasm",
 ]
 # The tools that link a library, or lower one.

@@ -64,6 +64,7 @@ class Page(Shown):
 
     def test_rust(self):
         self.need("the crate of a release", "cargo", "rustc", "cc")
+        self.need_crates("the crate of a release")
         # Both programs of the page share what is built of the crate.
         self.variables["CARGO_TARGET_DIR"] = os.path.join(self.folder, "target")
         self.check("From Rust")

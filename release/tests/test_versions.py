@@ -36,7 +36,6 @@ SOURCES = (
 CHANGED = (
     ("bindings/python/src/cfgx/__init__.py", '\n__version__ = "4.5.6"\n'),
     ("bindings/python/src/cfgx/__init__.py", "`libcfgx.so.4.5`"),
-    ("bindings/rust/tests/fake/pkg-config/pkg-config", '"--exists cfgx >= 4.5.6 cfgx < 4.6")'),
     ("crates/cfgx_c/tests/library.py", "\nVERSION = 4_005_006\n"),
     ("crates/cfgx_c/tests/version.c", "CFGX_VERSION, 4005006);"),
     ("docs/C.md", "--exists 'cfgx >= 4.5.6' 'cfgx < 4.6'"),
@@ -44,7 +43,7 @@ CHANGED = (
     ("docs/C.md", "['>=4.5.6', '<4.6']"),
     ("docs/C.md", "| `lib/libcfgx.so.4.5.6` |"),
     ("docs/RELEASE.md", "tar -xzf cfgx-rust-4.5.6.tar.gz"),
-    ("docs/RUST.md", "\n| 7.8.9 | 0.99.1 | 4.5, from 4.5.6 on |\n"),
+    ("docs/RUST.md", "\n| 7.8.9 | 0.99.1 |\n"),
     ("CHANGELOG.md", "| the language, as RULES has it | 4 |"),
     ("CHANGELOG.md", "the version of the calls from C: 5.6. A new"),
     ("CHANGELOG.md", "| the same, as `cfgx_version` returns it | 4005006 |"),

@@ -17,8 +17,6 @@ edition = "2024"
 cfgx = {{ path = "../{RUST}" }}
 cfg-expr = {{ path = "../{RUST}/cfg-expr" }}
 """
-# A member's lock file has its optional dependency, for which this stands in without a network.
-STAND_IN = '[package]\nname = "target-lexicon"\nversion = "0.13.5"\n\n[workspace]\n'
 CODE = """\
 #[test]
 fn both_packages_have_one_type() {
@@ -39,15 +37,14 @@ class Workspace(User):
             file.write(text)
 
     def test_all_tests_of_the_workspace_pass(self):
-        self.need("the released crate in a workspace", "cargo", "rustc", "cc")
+        what = "the released crate in a workspace"
+        self.need(what, "cargo", "rustc", "cc")
+        self.need_crates(what)
         self.unpacked(RUST)
         self.write("Cargo.toml", WORKSPACE)
         self.write("mine/Cargo.toml", MEMBER)
         self.write("mine/src/lib.rs", CODE)
-        self.write("stand-in/Cargo.toml", STAND_IN)
-        self.write("stand-in/src/lib.rs", "")
-        patch = f'patch.crates-io.target-lexicon.path="{self.folder}/stand-in"'
-        said = self.succeed("cargo", "test", "--workspace", "--offline", "--config", patch)
+        said = self.succeed("cargo", "test", "--workspace")
         # The tests of the crate are members of the workspace too, and so are its examples.
         for of_one in ("unittests src/lib.rs (target/debug/deps/cfgx-", "Doc-tests cfgx",
                        "Doc-tests cfg_expr", "both_packages_have_one_type ... ok"):
@@ -58,6 +55,6 @@ class Workspace(User):
     def test_each_package_has_the_texts_of_its_licence(self):
         folder = self.unpacked(RUST)
         own = ["LICENSE-APACHE", "LICENSE-MIT", "NOTICE"]
-        texts = [*own, "LICENSES/LicenseRef-cfgx-kit.txt", *(f"cfg-expr/{name}" for name in own)]
+        texts = [*own, *(f"cfg-expr/{name}" for name in own)]
         for text in texts:
             self.assertTrue(os.path.isfile(os.path.join(folder, text)), text)

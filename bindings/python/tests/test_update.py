@@ -10,6 +10,8 @@ from . import ROOT
 
 FOLDER = os.path.join("bindings", "targets")
 TABLE = os.path.join(FOLDER, "targets.tsv")
+ROWS = os.path.join(FOLDER, "cfg-expr", "targets.tsv")
+NAMED = os.path.join(FOLDER, "cfg-expr", "named.tsv")
 RUST_SOURCE = os.path.join("bindings", "rust", "src", "targets", "builtins.rs")
 PYTHON_TABLE = os.path.join("bindings", "python", "src", "cfgx", "targets.tsv")
 JAVASCRIPT_TABLE = os.path.join("bindings", "js", "src", "targets_table.js")
@@ -57,14 +59,44 @@ target_pointer_width|target_endian|target_has_atomic|panic|debug_assertions|targ
 bare|-|-|x|-|-|-|16|big|-|abort|no|-
 one|linux|-|arm|gnu|pc|unix wasm|32|little|8 16 128 ptr|unwind|yes|fxsr sse2
 """.replace("|", "\t")
-# Lines of the Rust source that these two targets make.
+# Made-up tables of cfg-expr: a target that rustc lacks, one that it describes otherwise, and the
+# same one; names, among them one that does not follow from its value, and one of no target.
+WRITTEN_ROWS = """\
+# Targets of cfg-expr 0.20.10, which are those of rustc 9.8.7. Made by \
+bindings/targets/cfg-expr/update.
+triple|target_os|target_abi|target_arch|target_env|target_vendor|target_family|\
+target_pointer_width|target_endian|target_has_atomic|panic
+alone|-|odd.value|x|-|-|-|64|big|-|abort
+bare|-|-|x|-|-|-|32|big|-|abort
+one|linux|-|arm|gnu|pc|unix wasm|32|little|8 16 128 ptr|unwind
+""".replace("|", "\t")
+WRITTEN_NAMED = """\
+# Named values of cfg-expr 0.20.10. Made by bindings/targets/cfg-expr/update.
+type|name|value
+Abi|odd_name|odd.value
+Arch|x|x
+Families|both|unix wasm
+Os|plan9|plan9
+""".replace("|", "\t")
+# Lines of the Rust source that these targets make, and how it declares them.
 SOURCE_LINES = [
-    '    pauthtest "pauthtest",', '    arm "arm",', "    unix_wasm: unix, wasm;",
+    '    odd_name "odd.value",', '    plan9 "plan9",', '    arm "arm",', "    both: unix, wasm;",
     "    atomic_8_16_128_ptr: 8, 16, 128, ptr;",
-    'pub(super) const RUSTC_VERSION: &str = "1.2.3";',
-    '    "bare" - - x - - - 16 big - abort false "";',
-    '    "one" linux - arm gnu pc unix_wasm 32 little atomic_8_16_128_ptr unwind true "fxsr sse2";',
+    'pub(super) const RUSTC_VERSION: &str = "9.8.7";',
 ]
+SOURCE_ROWS = """
+built_in! {
+    TARGETS, OTHER_FACTS:
+    "alone" - odd_name x - - - 64 big - abort false "";
+    "bare" - - x - - - 32 big - abort false "";
+    "one" linux - arm gnu pc both 32 little atomic_8_16_128_ptr unwind true "fxsr sse2";
+}
+
+built_in! {
+    RUSTC_TARGETS, RUSTC_FACTS:
+    "bare" - - x - - - 16 big - abort false "";
+}
+"""
 # What rustc prints of a target for which nothing is written, and what the message has.
 REFUSED = [
     (LINES + 'target_object_format="elf"\n', 'not known here: target_object_format="elf"'),
@@ -82,6 +114,14 @@ REFUSED = [
     (LINES.replace('"arm"', '"loop"'), "cannot be the name of a constant, at Arch: loop"),
     (LINES.replace('"arm"', '"8051"'), "cannot be the name of a constant, at Arch: 8051"),
     (LINES.replace('"gnu"', '"a-b"') + 'target_abi="x"\n', "more than once: target_abi"),
+    (LINES.replace('_abi=""', '_abi="odd_name"'), "two values have the same name, at Abi"),
+]
+# What a row or a name of cfg-expr becomes for which nothing is made, and what the message has.
+REFUSED_OF_CFG_EXPR = [
+    (ROWS, WRITTEN_ROWS.replace("\tlinux", "\tbeos"), "this value has no name, at Os: beos"),
+    (ROWS, WRITTEN_ROWS.replace("\t-\tabort", "\t8\tabort"), "has no name, at HasAtomics: 8"),
+    (NAMED, WRITTEN_NAMED.replace("Os", "Triple"), "of a type that is not known: Triple"),
+    (NAMED, WRITTEN_NAMED + "Abi\todd_name\tx\n", "two values have the same name, at Abi"),
 ]
 
 
@@ -108,6 +148,8 @@ class Made(unittest.TestCase):
         os.chmod(os.path.join(self.root, "bin", "rustc"), 0o755)
         self.write("targets/one", LINES)
         self.write("targets/bare", BARE)
+        self.write(ROWS, WRITTEN_ROWS)
+        self.write(NAMED, WRITTEN_NAMED)
 
     def write(self, path, text):
         """Writes a file of the folder."""
@@ -141,9 +183,10 @@ class Made(unittest.TestCase):
         self.assertEqual(self.read(TABLE), WRITTEN)
         self.assertEqual(self.read(PYTHON_TABLE), WRITTEN)
         self.assertIn(f"\nexport const TABLE = `{WRITTEN}`;\n", self.read(JAVASCRIPT_TABLE))
-        lines = self.read(RUST_SOURCE).splitlines()
+        source = self.read(RUST_SOURCE)
         for line in SOURCE_LINES:
-            self.assertEqual(lines.count(line), 1, line)
+            self.assertEqual(source.splitlines().count(line), 1, line)
+        self.assertTrue(source.endswith(SOURCE_ROWS), source)
         self.assertEqual(self.run_update("--check"), (0, ""))
 
     def test_what_is_made_without_a_compiler(self):
@@ -189,9 +232,37 @@ class Made(unittest.TestCase):
         self.assertIn("no target has ['linux'] any more: add it to KEPT, at Os", said)
         self.assertEqual(self.written(), wanted)
 
+    def test_a_value_that_cfg_expr_names_stays(self):
+        self.run_update()
+        self.write("targets/bare", BARE.replace('"x"', '"y"'))
+        self.assertEqual(self.run_update(), (0, ""))
+        lines = self.read(RUST_SOURCE).splitlines()
+        self.assertEqual([lines.count(f'    {name} "{name}",') for name in "xy"], [1, 1])
+
     def test_a_file_that_is_no_table(self):
-        head = WRITTEN.splitlines()[0]
-        for text in ("", "# Targets\n", head, WRITTEN.replace("target_os", "os")):
-            self.write(TABLE, text)
+        self.run_update()
+        wanted = self.written()
+        for path in (TABLE, ROWS, NAMED):
+            text = self.read(path)
+            head, columns = text.splitlines(keepends=True)[:2]
+            for other in ("", "# Targets\n", head, head + columns.replace("t", "T"),
+                          text.replace(head, head.replace(" of ", " by ")), text + "x\n"):
+                self.write(path, other)
+                status, said = self.run_update("--made")
+                self.assertEqual(status, 1)
+                self.assertIn(f"this is no table of targets: {self.root}", said)
+                self.assertIn(path, said)
+            self.write(path, text)
+        self.assertEqual(self.written(), wanted)
+
+    def test_what_is_refused_of_cfg_expr(self):
+        self.run_update()
+        wanted = self.written()
+        for path, text, message in REFUSED_OF_CFG_EXPR:
+            before = self.read(path)
+            self.write(path, text)
             status, said = self.run_update("--made")
-            self.assertEqual((status, "this is no table of targets" in said), (1, True), said)
+            self.assertEqual((status, message in said), (1, True), said)
+            self.assertEqual(said.count("\n"), 1, said)
+            self.write(path, before)
+        self.assertEqual(self.written(), wanted)

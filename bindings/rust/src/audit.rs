@@ -1,13 +1,13 @@
 //! The values of many conditions on many targets.
 
-mod lanes;
-mod questions;
-
+use crate::engine::cfg_expr::error;
+use crate::engine::cfg_expr::expr::Condition;
+use crate::engine::cfgx_engine::resolve::{self, FactsError, audit_conditions};
+use crate::engine::cfgx_syntax::stripping::strip;
+use crate::engine::rattle::alloc::Global;
 use crate::error::Reason;
 use crate::expr::Expression;
-use crate::ffi::{self, Fault, Texts};
-use lanes::{Lanes, WIDTH};
-use questions::Questions;
+use crate::memory;
 use std::borrow::Borrow;
 use std::error::Error;
 use std::fmt;
@@ -31,7 +31,10 @@ use std::ops::Range;
 /// ```
 #[derive(Clone, Default, PartialEq, Eq, Hash)]
 pub struct Facts {
-    texts: Texts,
+    /// The facts one after another
+    texts: String,
+    /// The number of bytes up to the end of each
+    ends: Vec<usize>,
 }
 
 impl Facts {
@@ -61,7 +64,8 @@ impl Facts {
     /// assert_eq!(facts, Facts::new(["unix"]));
     /// ```
     pub fn push(&mut self, fact: &str) {
-        self.texts.push(fact);
+        self.texts.push_str(fact);
+        self.ends.push(self.texts.len());
     }
 
     /// Returns the fact with this number, counted from 0.
@@ -75,7 +79,10 @@ impl Facts {
     /// ```
     #[must_use]
     pub fn get(&self, number: usize) -> Option<&str> {
-        self.texts.get(number)
+        let end = *self.ends.get(number)?;
+        let before = number.checked_sub(1);
+        let start = before.map_or(0, |before| self.ends[before]);
+        Some(&self.texts[start..end])
     }
 
     /// Returns the facts in order.
@@ -101,7 +108,7 @@ impl Facts {
     /// ```
     #[must_use]
     pub fn len(&self) -> usize {
-        self.texts.ends.len()
+        self.ends.len()
     }
 
     /// Returns whether there is no fact.
@@ -111,7 +118,18 @@ impl Facts {
     /// ```
     #[must_use]
     pub fn is_empty(&self) -> bool {
-        self.texts.ends.is_empty()
+        self.ends.is_empty()
+    }
+
+    /// Reads the facts of the target with this number. Returns the error of the first faulty one.
+    fn read(&self, target: usize) -> Result<resolve::Facts, FactError> {
+        let facts: Vec<&str> = self.iter().collect();
+        resolve::Facts::from_rustc(Global, &facts).map_err(|error| match error {
+            FactsError::Faulty { index, error } => {
+                FactError::new(target, index, facts[index], &error)
+            }
+            FactsError::Memory(_) => memory::end(self.texts.len()),
+        })
     }
 }
 
@@ -210,6 +228,16 @@ pub enum Otherwise {
     /// It is unknown.
     #[default]
     Unknown,
+}
+
+impl Otherwise {
+    /// Returns what the engine calls it.
+    fn of_the_engine(self) -> resolve::Otherwise {
+        match self {
+            Otherwise::False => resolve::Otherwise::False,
+            Otherwise::Unknown => resolve::Otherwise::Unknown,
+        }
+    }
 }
 
 /// The values of conditions on targets. `None` is unknown.
@@ -366,11 +394,27 @@ impl fmt::Display for FactError {
 
 impl Error for FactError {}
 
+impl FactError {
+    /// Returns the error of a fact. The span of `error` is one of the fact without the `?` that it
+    /// may begin with, and without an outer `cfg( )`.
+    fn new(target: usize, number: usize, fact: &str, error: &error::ParseError) -> Self {
+        let text = fact.strip_prefix('?').unwrap_or(fact);
+        let offset = fact.len() - text.len() + strip(text).offset;
+        FactError {
+            target,
+            number,
+            fact: fact.to_string(),
+            reason: error.reason,
+            span: offset + error.span.start..offset + error.span.end,
+        }
+    }
+}
+
 /// Returns the value of each condition on each target. A predicate that no fact names is false if
 /// it tests the target, and unknown otherwise.
 ///
-/// No condition is parsed again: each different predicate is asked once about 64 targets. The
-/// memory is in proportion to the texts of the conditions, to those of the facts of 64 targets, and
+/// No condition is parsed again: each predicate is looked up once for 64 targets, and each
+/// condition is evaluated once for them. The memory is in proportion to the texts of the facts and
 /// to the number of values. What the iterators yield is kept until the end.
 ///
 /// # Errors
@@ -419,97 +463,17 @@ where
     T::Item: Borrow<Facts>,
 {
     let conditions: Vec<C::Item> = conditions.into_iter().collect();
-    let conditions: Vec<&Expression> = conditions.iter().map(Borrow::borrow).collect();
     let targets: Vec<T::Item> = targets.into_iter().collect();
-    let questions = Questions::of(conditions.iter().copied());
-    let mut audit = Audit {
-        values: vec![None; conditions.len().saturating_mul(targets.len())],
+    let read = targets.iter().enumerate();
+    let read = read.map(|(number, facts)| facts.borrow().read(number));
+    let facts: Vec<resolve::Facts> = read.collect::<Result<_, _>>()?;
+    let borrowed = conditions.iter().map(|one| one.borrow().condition());
+    let borrowed: Vec<Condition<'_>> = borrowed.collect();
+    let values = audit_conditions(Global, &borrowed, &facts, otherwise.of_the_engine());
+    let count = conditions.len().saturating_mul(targets.len());
+    Ok(Audit {
+        values: memory::granted(values, count).into_std(),
         condition_count: conditions.len(),
         target_count: targets.len(),
-    };
-    for (block, some) in targets.chunks(WIDTH).enumerate() {
-        let facts = FactLists::of(block * WIDTH, some.iter().map(Borrow::borrow));
-        let answers = facts.answers(&questions, otherwise)?;
-        for (row, condition) in conditions.iter().enumerate() {
-            let values = value_over(condition, questions.asked_by(row), &answers);
-            audit.put(row, &facts, values);
-        }
-    }
-    Ok(audit)
-}
-
-/// The facts of up to 64 targets, one after another.
-struct FactLists {
-    /// The number of targets before these
-    before: usize,
-    texts: Texts,
-    /// The number of facts up to the end of each target
-    target_ends: Vec<usize>,
-}
-
-impl FactLists {
-    /// Returns the facts of targets, with this number of targets before them.
-    fn of<'a>(before: usize, targets: impl Iterator<Item = &'a Facts>) -> Self {
-        let mut lists = FactLists {
-            before,
-            texts: Texts::default(),
-            target_ends: Vec::new(),
-        };
-        for target in targets {
-            lists.texts.append(&target.texts);
-            lists.target_ends.push(lists.texts.ends.len());
-        }
-        lists
-    }
-
-    /// Returns the answers of the targets to each different predicate.
-    fn answers(
-        &self,
-        questions: &Questions<'_>,
-        otherwise: Otherwise,
-    ) -> Result<Vec<Lanes>, FactError> {
-        let otherwise = match otherwise {
-            Otherwise::False => Some(false),
-            Otherwise::Unknown => None,
-        };
-        let found = ffi::audit(&questions.texts, &self.texts, &self.target_ends, otherwise);
-        let found = found.map_err(|fault| self.error_of(&fault))?;
-        let rows = found.chunks(self.target_ends.len());
-        Ok(rows.map(|row| Lanes::new(row.iter())).collect())
-    }
-
-    /// Returns the error of the fact that has this fault.
-    fn error_of(&self, fault: &Fault) -> FactError {
-        let target = self.target_ends.partition_point(|end| *end <= fault.item);
-        let before = target.checked_sub(1);
-        let first = before.map_or(0, |before| self.target_ends[before]);
-        FactError {
-            target: self.before + target,
-            number: fault.item - first,
-            fact: self.texts.get(fault.item).unwrap_or_default().to_string(),
-            reason: Reason::new(fault),
-            span: fault.offset + fault.start..fault.offset + fault.end,
-        }
-    }
-}
-
-impl Audit {
-    /// Puts the values of a condition on these targets.
-    fn put(&mut self, condition: usize, targets: &FactLists, values: Lanes) {
-        let start = condition * self.target_count + targets.before;
-        let places = &mut self.values[start..start + targets.target_ends.len()];
-        for (place, value) in places.iter_mut().zip(values.values()) {
-            *place = value;
-        }
-    }
-}
-
-/// Returns the values of a condition over the answers to all predicates. It asks those with these
-/// numbers.
-fn value_over(condition: &Expression, asked: &[usize], answers: &[Lanes]) -> Lanes {
-    let mut numbers = asked.iter();
-    condition.eval(|_| {
-        let number = numbers.next().expect("each predicate is asked once");
-        answers[*number]
     })
 }

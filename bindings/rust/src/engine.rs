@@ -9,7 +9,7 @@
 // The byte orders are spelled as the values of `target_endian` are.
 #![allow(non_camel_case_types)]
 // The form is that of the sources. Rattle lacks some shorter ones, and proofs follow others.
-#![allow(clippy::complexity, clippy::style)]
+#![allow(clippy::complexity, clippy::must_use_candidate, clippy::style)]
 // Lists are in the order of slices by both traits.
 #![allow(clippy::non_canonical_partial_ord_impl)]
 

@@ -2,20 +2,29 @@
 
 pub mod lexer;
 pub mod logic;
-mod node;
 mod predicate;
-mod stack;
 
+use crate::engine::cfg_expr::expr;
+use crate::engine::rattle::alloc::Global;
 use crate::error::ParseError;
-use crate::ffi;
+use crate::memory;
 pub use logic::Logic;
-use node::{Asked, FewNodes, Nodes, Packed, Step};
+pub(crate) use predicate::Named;
 pub use predicate::{Predicate, TargetMatcher, TargetPredicate};
-use stack::{Slot, Slots, Stack};
 use std::fmt;
 use std::hash::{Hash, Hasher};
-use std::mem;
 use std::str::FromStr;
+
+/// A function of a condition, with the number of its members.
+///
+/// No call takes or returns it. `cfg-expr` has it too.
+///
+/// ```
+/// use cfgx::expr::Func;
+///
+/// assert!(Func::Not < Func::All(0) && Func::All(2) < Func::Any(1));
+/// ```
+pub use crate::engine::cfgx_parser::function::Func;
 
 /// A parsed condition.
 ///
@@ -37,24 +46,8 @@ use std::str::FromStr;
 /// assert_eq!(HashSet::from([expression, same, other]).len(), 2);
 /// # Ok::<(), cfgx::ParseError>(())
 /// ```
-#[derive(Clone)]
 pub struct Expression {
-    /// The text, also with an outer `cfg( )`
-    text: Box<str>,
-    nodes: Nodes,
-}
-
-/// A function of a condition, with the number of its members.
-///
-/// No call takes or returns it. `cfg-expr` has it too.
-#[derive(Clone, Copy, Debug, PartialEq, Eq, PartialOrd, Ord)]
-pub enum Func {
-    /// `not( )`, which has one member
-    Not,
-    /// `all( )`
-    All(usize),
-    /// `any( )`
-    Any(usize),
+    parsed: expr::Expression,
 }
 
 /// What [`Expression::decide`] found.
@@ -106,22 +99,10 @@ impl Expression {
     /// assert!(Expression::parse("all(unix").is_err());
     /// ```
     pub fn parse(text: &str) -> Result<Self, ParseError> {
-        ffi::compile(text, |compiled| match compiled {
-            // One kind of nodes after another: so each is made in its place, and is not copied.
-            Ok(([_], [only])) => Ok(Expression {
-                text: text.into(),
-                nodes: Nodes::One(Asked::new(text, only)),
-            }),
-            Ok((steps, predicates)) if node::are_few(steps, predicates) => Ok(Expression {
-                text: text.into(),
-                nodes: Nodes::Few(FewNodes::new(text, steps, predicates)),
-            }),
-            Ok((steps, predicates)) => Ok(Expression {
-                text: text.into(),
-                nodes: Nodes::many(text, steps, predicates),
-            }),
-            Err(fault) => Err(ParseError::new(text, &fault)),
-        })
+        match expr::Expression::parse(Global, text) {
+            Ok(parsed) => Ok(Expression { parsed }),
+            Err(failure) => Err(ParseError::new(failure, text.len())),
+        }
     }
 
     /// Returns the text without an outer `cfg( )`.
@@ -133,11 +114,13 @@ impl Expression {
     /// ```
     #[must_use]
     pub fn original(&self) -> &str {
-        // A condition that begins so stands in `cfg( )`, so it ends with `)`.
-        match self.text.strip_prefix("cfg(") {
-            Some(rest) => &rest[..rest.len() - 1],
-            None => &self.text,
-        }
+        self.parsed.original()
+    }
+
+    /// Returns the condition as the engine borrows it.
+    #[inline]
+    pub(crate) fn condition(&self) -> expr::Condition<'_> {
+        self.parsed.condition()
     }
 
     /// Returns the predicates in the order in which they are asked: those of a list's functions,
@@ -155,8 +138,10 @@ impl Expression {
     /// );
     /// ```
     pub fn predicates(&self) -> impl Iterator<Item = Predicate<'_>> {
-        let asked = self.nodes.asked().iter();
-        asked.map(|one| one.predicate(&self.text))
+        let condition = self.condition();
+        let text = condition.original();
+        let located = condition.located_predicates();
+        located.map(|predicate| Predicate::of(&predicate, text))
     }
 
     /// Evaluates the condition over what `eval_predicate` answers to its predicates.
@@ -182,23 +167,11 @@ impl Expression {
         EP: FnMut(&Predicate<'_>) -> T,
         T: Logic,
     {
-        let text = &self.text;
-        match &self.nodes {
-            Nodes::One(asked) => asked.answer(text, &mut eval_predicate),
-            Nodes::Few(nodes) => {
-                let mut answers = [const { Slot::Empty }; node::FEW];
-                let answers = &mut answers[..nodes.asked().len()];
-                ask_each(nodes.asked(), text, answers, &mut eval_predicate);
-                let mut slots = [const { Slot::Empty }; node::FEW];
-                value_over(nodes.steps(), answers, &mut slots)
-            }
-            Nodes::Many { asked, steps } => {
-                let mut answers = Slots::new(asked.len());
-                let answers = answers.first(asked.len());
-                ask_each(asked, text, answers, &mut eval_predicate);
-                value_over(steps, answers, Slots::new(steps.len()).first(steps.len()))
-            }
-        }
+        let condition = self.condition();
+        let text = condition.original();
+        let located = condition.located_predicates();
+        let answers = located.map(|one| Predicate::ask(&one, text, &mut eval_predicate));
+        memory::granted(condition.eval_over(Global, answers), text.len())
     }
 
     /// Decides the condition over answers of which some may be unknown: returns its value, or two
@@ -224,68 +197,29 @@ impl Expression {
     where
         EP: FnMut(&Predicate<'_>) -> Option<bool>,
     {
-        let mut answers = Vec::new();
-        let value = self.eval(|predicate| {
-            let answer = eval_predicate(predicate);
-            answers.push(answer);
-            answer
-        });
-        match value {
-            Some(value) => Decision::Known(value),
-            None => self.fillings_of(&answers),
-        }
-    }
-
-    /// Returns the fillings of these answers, over which the value is unknown. What stands below an
-    /// even number of `not` can only make the condition true where it is true itself.
-    fn fillings_of(&self, answers: &[Option<bool>]) -> Decision {
-        let signs = self.nodes.signs();
-        let filled = |is_true| {
-            let pairs = answers.iter().zip(&signs);
-            pairs.map(move |(answer, sign)| answer.unwrap_or(*sign == is_true))
-        };
-        Decision::Unknown {
-            if_true: filled(true).collect(),
-            if_false: filled(false).collect(),
+        let condition = self.condition();
+        let text = condition.original();
+        let located = condition.located_predicates();
+        let mut answers = Vec::with_capacity(located.left());
+        answers.extend(located.map(|one| Predicate::ask(&one, text, &mut eval_predicate)));
+        let decision = self.parsed.decide(Global, &answers);
+        match memory::granted(decision, text.len()) {
+            expr::Decision::Known(value) => Decision::Known(value),
+            expr::Decision::Unknown { if_true, if_false } => Decision::Unknown {
+                if_true: if_true.into_std(),
+                if_false: if_false.into_std(),
+            },
         }
     }
 }
 
-/// Asks each predicate for its answer, and puts it into its slot.
-#[inline]
-fn ask_each<EP, T>(asked: &[Asked], text: &str, slots: &mut [Slot<T>], eval_predicate: &mut EP)
-where
-    EP: FnMut(&Predicate<'_>) -> T,
-{
-    for (slot, one) in slots.iter_mut().zip(asked) {
-        *slot = Slot::Leaf(one.answer(text, eval_predicate));
-    }
-}
-
-/// Returns the value of steps over the answers, each of which is taken. The steps are read from the
-/// last to the first, so a function finds the values of its members in the slots.
-fn value_over<T: Logic>(
-    steps: &[impl Packed],
-    answers: &mut [Slot<T>],
-    slots: &mut [Slot<T>],
-) -> T {
-    if steps.len() == answers.len() + 1 {
-        // All steps but one ask, so this one is first, and the answers are its members in order.
-        if let Step::Function(func) = steps[0].unpack() {
-            return Stack::of(answers).apply(func);
+impl Clone for Expression {
+    fn clone(&self) -> Self {
+        let parsed = self.parsed.try_clone(Global);
+        Expression {
+            parsed: memory::granted(parsed, self.original().len()),
         }
     }
-    let mut stack = Stack::new(slots);
-    for step in steps.iter().rev() {
-        let value = match step.unpack() {
-            Step::Ask(number) => mem::take(&mut answers[number]),
-            Step::Literal(true) => Slot::Leaf(T::top()),
-            Step::Literal(false) => Slot::Leaf(T::bottom()),
-            Step::Function(func) => Slot::Function(stack.apply(func)),
-        };
-        stack.push(value);
-    }
-    stack.pop()
 }
 
 impl FromStr for Expression {

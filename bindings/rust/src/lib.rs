@@ -9,10 +9,9 @@
 //! cfg-expr = { package = "cfgx", path = "../cfgx/bindings/rust" }
 //! ```
 //!
-//! The crate calls an engine that is proved: [`Expression::parse`] and
-//! [`Lexer`](expr::lexer::Lexer) get their results from it, and [`audit()`] the answers of targets.
-//! [`Expression::eval`] and [`Expression::decide`] are code of this crate, which is tested, and not
-//! proved.
+//! Its engine is proved in Rattle, which is Rust with contracts, and stands in this crate without
+//! these contracts, compiled by rustc: [`Expression`], [`Lexer`](expr::lexer::Lexer) and [`audit()`]
+//! call it. Targets and their fields are code of this crate, which is tested, and not proved.
 //!
 //! ```
 //! use cfgx as cfg_expr;
@@ -46,24 +45,17 @@
 //! A call that gets no memory ends the process by
 //! [`handle_alloc_error`](std::alloc::handle_alloc_error), as those of `Vec` do. All types are
 //! plain data, so they are `Send` and `Sync`.
-//!
-//! # Signals and forks
-//!
-//! Do not call from a signal handler, nor from the child of a fork in a process with threads, such
-//! as in the closure of [`pre_exec`](std::os::unix::process::CommandExt::pre_exec). Calls take
-//! memory from `malloc`, which may wait there for ever. A program that the child executes may call.
 
 #![deny(missing_docs)]
-#![deny(unsafe_code)]
+#![forbid(unsafe_code)]
 
 mod audit;
+mod engine;
 pub mod error;
 pub mod expr;
-#[allow(unsafe_code)]
-mod ffi;
 #[cfg(feature = "target-lexicon")]
 mod lexicon;
-mod numbers;
+mod memory;
 pub mod targets;
 
 pub use audit::{Audit, FactError, FactIter, Facts, Otherwise, audit, audit_with};

@@ -9,7 +9,9 @@ mod lists;
 mod printed;
 mod rustc;
 
-use crate::error::{HasAtomicParseError, Reason};
+use crate::engine::cfgx_fields::atomic;
+use crate::engine::cfgx_fields::reading::read_has_atomic;
+use crate::error::HasAtomicParseError;
 pub use facts::builtin_facts;
 pub use fields::{Abi, Arch, Env, Family, Os, Panic, Triple, Vendor};
 pub use lists::{Families, HasAtomics};
@@ -66,8 +68,7 @@ pub struct TargetInfo {
     pub panic: Panic,
 }
 
-/// The order in which a target stores the bytes of a number. The variants are spelled like the
-/// values of `target_endian`.
+/// The order in which a target stores the bytes of a number.
 ///
 /// ```
 /// use cfgx::error::Reason;
@@ -76,27 +77,7 @@ pub struct TargetInfo {
 /// assert_eq!("big".parse(), Ok(Endian::big));
 /// assert_eq!("Big".parse::<Endian>(), Err(Reason::Unexpected(&["big", "little"])));
 /// ```
-#[derive(Clone, Copy, Debug, PartialEq, Eq, PartialOrd, Ord, Hash)]
-#[allow(non_camel_case_types)]
-pub enum Endian {
-    /// The highest byte comes first.
-    big,
-    /// The lowest byte comes first.
-    little,
-}
-
-impl FromStr for Endian {
-    type Err = Reason;
-
-    /// Reads `big` or `little`, letter for letter.
-    fn from_str(text: &str) -> Result<Self, Reason> {
-        match text {
-            "big" => Ok(Endian::big),
-            "little" => Ok(Endian::little),
-            _ => Err(Reason::Unexpected(&["big", "little"])),
-        }
-    }
-}
+pub use crate::engine::cfgx_fields::endian::Endian;
 
 /// A width of atomics. Numbers of bits are in order, and below the width of a pointer.
 ///
@@ -116,16 +97,26 @@ pub enum HasAtomic {
     Pointer,
 }
 
+impl HasAtomic {
+    /// Returns a width that the engine read.
+    #[inline]
+    pub(crate) fn of(width: atomic::HasAtomic) -> Self {
+        match width {
+            atomic::HasAtomic::IntegerSize(bits) => HasAtomic::IntegerSize(bits),
+            atomic::HasAtomic::Pointer => HasAtomic::Pointer,
+        }
+    }
+}
+
 impl FromStr for HasAtomic {
     type Err = HasAtomicParseError;
 
     /// Reads a number of bits, at most 65535, or `ptr`.
     fn from_str(text: &str) -> Result<Self, HasAtomicParseError> {
-        match text.parse() {
-            Ok(bits) => Ok(HasAtomic::IntegerSize(bits)),
-            Err(_) if text == "ptr" => Ok(HasAtomic::Pointer),
-            Err(_) => Err(HasAtomicParseError::new(text)),
-        }
+        let width = read_has_atomic(text);
+        width
+            .map(HasAtomic::of)
+            .ok_or_else(|| HasAtomicParseError::new(text))
     }
 }
 
@@ -138,9 +129,8 @@ impl fmt::Display for HasAtomic {
     }
 }
 
-/// The built-in targets, in the order of their triples: every target of the compiler that
-/// [`rustc_version`] names. A field is missing if this compiler prints no value for it, or `none`
-/// as the operating system.
+/// The built-in targets, in the order of their triples: those of `cfg-expr` 0.20.10, with the same
+/// fields.
 ///
 /// ```
 /// use cfgx::targets::{ALL_BUILTINS, Arch};
@@ -161,16 +151,17 @@ pub const ALL_BUILTINS: &[TargetInfo] = builtins::TARGETS;
 /// ```
 #[must_use]
 pub fn get_builtin_target_by_triple(triple: &str) -> Option<&'static TargetInfo> {
-    place_of(triple).map(|place| &ALL_BUILTINS[place])
+    place_in(ALL_BUILTINS, triple).map(|place| &ALL_BUILTINS[place])
 }
 
-/// Returns the place of the built-in target with this triple.
-fn place_of(triple: &str) -> Option<usize> {
-    let found = ALL_BUILTINS.binary_search_by(|target| target.triple.as_str().cmp(triple));
+/// Returns the place of the target with this triple in `targets`, which are in the order of their
+/// triples.
+fn place_in(targets: &[TargetInfo], triple: &str) -> Option<usize> {
+    let found = targets.binary_search_by(|target| target.triple.as_str().cmp(triple));
     found.ok()
 }
 
-/// Returns the version of the compiler whose targets are built in.
+/// Returns the version of the compiler whose targets are built in, as `cfg-expr` 0.20.10 names it.
 ///
 /// ```
 /// assert!(cfgx::targets::rustc_version().starts_with("1."));

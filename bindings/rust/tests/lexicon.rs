@@ -19,7 +19,7 @@ fn read(path: &str) -> String {
 /// Returns a condition for each value of each key of the built-in targets, and for the keys of
 /// which a triple says nothing.
 fn conditions() -> BTreeSet<String> {
-    let table = read("bindings/targets/targets.tsv");
+    let table = read("bindings/targets/cfg-expr/targets.tsv");
     let mut rows = table.lines().skip(1).map(|row| row.split('\t').collect());
     let heads: Vec<&str> = rows.next().unwrap();
     let cells = rows.flat_map(|row: Vec<&str>| heads.clone().into_iter().zip(row).skip(1));

@@ -10,6 +10,9 @@ use Rattle.cfg_expr.specs.Fold.{Operations, from_last, list_value, values_by, fi
 use Rattle.cfg_expr.specs.Filling.{two_valued, three_valued, filled_by, Agrees, IsFilling}
 use Rattle.cfg_expr.specs.Filling.{IsExact, polar, polarities, polarities_each}
 use Rattle.cfg_expr.specs.Filling.{KeepsKnown, StaysKnown}
+use Rattle.cfg_expr.specs.Deciding.{HoldsFillingsOf, IsDecision}
+use Rattle.cfg_expr.specs.declared.expr.Decision.{Decision}
+use Rattle.cfg_expr.specs.declared.expr.Decision.TheVariants as decision
 use Rattle.cfgx_grammar.proofs.Alike.{AllZip-append, length-asked, length-asked_by}
 
 -- Values of two logics that are related stay so.
@@ -170,3 +173,10 @@ module _ {X : Type 0} (tree : Tree X) (answers : List (Option Bool))
       let lower = polar_value false in
       let kept = fold_kept three_valued two_valued Agrees agreement tree answers in
       grind (arith, kept, polar_filling)
+
+  -- what a decision holds are fillings
+  pub HoldsFillingsOf-decision : {A : Type 0} (given : Decision A) → IsDecision tree answers given
+      → HoldsFillingsOf answers given
+  HoldsFillingsOf-decision (decision.Known value) is = tt
+  HoldsFillingsOf-decision (decision.Unknown if_true if_false) is =
+      (rw is.1 (polar_filling true), rw is.2 (polar_filling false))

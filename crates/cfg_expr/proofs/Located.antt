@@ -1,7 +1,7 @@
 -- The predicates of a text where its nodes have them.
 use Rattle.std.proofs.Common.{◌≡◌, ℕ, suc, List, [], ◌∷◌, ◌++◌, Some, length, map, refl}
 use Rattle.std.proofs.Common.{sym, ap, ◌∙◌, arith, drop, length-take, subst}
-use Rattle.std.proofs.lemmas.Option.{slice_get-map}
+use Rattle.std.proofs.lemmas.{List.length-map, Option.slice_get-map}
 use Rattle.std.specs.Prelude.{◌-◌, ◌≤◌, ◌<◌, slice_range, Bool, true, false, if◌then◌else◌}
 use Rattle.std.specs.List.{AllByRecursion, AllZip, slice_get}
 use Rattle.cfgx_syntax.specs.Items.{Ending, Item, ItemsFrom, Stands}
@@ -60,11 +60,15 @@ module _ {X Y : Type 0} (f : X → Y) where
     from_tree (Tree.literal truth) (Node.literal same ∷ []) is =
         let truth_is : same ≡ truth = cc in
         (Tree.literal truth, rw truth_is refl, Alike.literal truth)
-    from_tree (Tree.list which trees) (Node.function func ∷ nodes) is =
+    from_tree (Tree.list which trees) (Node.function func len ∷ nodes) is =
         let (from, are, alike, counts) = from_trees trees nodes (cc) in
+        let long : length nodes ≡ length (prefix_each trees) =
+        sym (length-map nodes (node_map f)) ∙ ap length (cc) in
         (Tree.list which from, grind arith, Alike.list which from trees alike)
-    from_tree (Tree.not tree) (Node.function func ∷ nodes) is =
+    from_tree (Tree.not tree) (Node.function func len ∷ nodes) is =
         let (from, are, alike) = from_tree tree nodes (cc) in
+        let long : length nodes ≡ length (prefix tree) =
+        sym (length-map nodes (node_map f)) ∙ ap length (cc) in
         (Tree.not from, grind arith, Alike.not from tree alike)
     from_tree _ _ is = absurd (cc)
 
@@ -104,14 +108,14 @@ module _ {X : Type 0} where
   leaves [] = []
   leaves (Node.leaf x ∷ nodes) = x ∷ leaves nodes
   leaves (Node.literal truth ∷ nodes) = leaves nodes
-  leaves (Node.function func ∷ nodes) = leaves nodes
+  leaves (Node.function func len ∷ nodes) = leaves nodes
 
   leaves-append : (nodes more : List (Node X))
       → leaves (nodes ++ more) ≡ leaves nodes ++ leaves more
   leaves-append [] more = refl
   leaves-append (Node.leaf x ∷ nodes) more = ap (λ l. x ∷ l) (leaves-append nodes more)
   leaves-append (Node.literal truth ∷ nodes) more = leaves-append nodes more
-  leaves-append (Node.function func ∷ nodes) more = leaves-append nodes more
+  leaves-append (Node.function func len ∷ nodes) more = leaves-append nodes more
 
   mutual
     leaves-prefix : (tree : Tree X) → leaves (prefix tree) ≡ in_text_order tree
@@ -129,7 +133,7 @@ module _ {X : Type 0} where
 leaves-nodes : (nodes : List ExprNode) → leaves (map inner_node nodes) ≡ predicates_in nodes
 leaves-nodes [] = refl
 leaves-nodes (node.Predicate predicate ∷ nodes) = ap (λ l. predicate ∷ l) (leaves-nodes nodes)
-leaves-nodes (node.Fn func ∷ nodes) = leaves-nodes nodes
+leaves-nodes (node.Fn func len ∷ nodes) = leaves-nodes nodes
 leaves-nodes (node.Literal truth ∷ nodes) = leaves-nodes nodes
 
 node_map-one : (text : List ℕ) (shown : ExprNode)

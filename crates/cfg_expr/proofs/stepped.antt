@@ -2,4 +2,5 @@
 pub mod Forests
 pub mod Items
 pub mod Numbers
+pub mod StepStack
 pub mod Stepping

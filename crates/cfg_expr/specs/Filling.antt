@@ -69,6 +69,8 @@ filling_bytes filling = map truth_byte filling
 
 -- the value in three values is exact, by the fillings of the answers
 pub record IsExact {X : Type 0} (tree : Tree X) (answers : List (Option Bool)) : Type 0 where
+  -- both polar fillings are fillings of the answers
+  pub filled : (fill : Bool) → IsFilling answers (polar tree answers fill)
   -- it is known exactly if every filling leads to it
   pub known : (value : Bool) → (tree_fold three_valued tree answers ≡ Some value)
       ↔ ((filling : List Bool) → IsFilling answers filling
@@ -79,7 +81,7 @@ pub record IsExact {X : Type 0} (tree : Tree X) (answers : List (Option Bool)) :
       × (tree_fold two_valued tree (polar tree answers false) ≡ false))
 
 -- the result of `polar_fillings`: `None` if the value is known, and else the polar fillings with
--- true and with false
+-- true and with false, which are fillings of the answers
 abbrev pub PolarFillings : {X A : Type 0} → Tree X → List (Option Bool)
     → Option (Vec Bool A × Vec Bool A) → Type 0
 PolarFillings tree answers None =
@@ -87,3 +89,4 @@ PolarFillings tree answers None =
 PolarFillings tree answers (Some fillings) = (tree_fold three_valued tree answers ≡ None)
     × (fillings.0.items ≡ polar tree answers true)
     × (fillings.1.items ≡ polar tree answers false)
+    × IsFilling answers fillings.0.items × IsFilling answers fillings.1.items

@@ -9,6 +9,7 @@ pub mod Homomorphism
 pub mod Located
 pub mod Matching
 pub mod Predicate
+pub mod StepStack
 pub mod Steps
 pub mod Words
 pub mod Writing

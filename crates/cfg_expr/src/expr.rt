@@ -142,6 +142,7 @@ impl<A: SmallAllocator> Expression<A> {
     ///
     /// `Failure::Parse`: the first fault of the text, whose span lies in the text without an outer
     /// `cfg( )`. `Failure::Memory`: `alloc` refused memory.
+    #[inline]
     pub fn parse(alloc: A, text: &str) -> Result<Self, Failure<A>>
         ensures { Answers (strip text.now) result }
     {
@@ -175,6 +176,7 @@ impl<A: SmallAllocator> Expression<A> {
     /// # Errors
     ///
     /// `AllocError`: `alloc` refused memory.
+    #[inline]
     pub fn try_clone(&self, alloc: A) -> Result<Self, AllocError>
         ensures { IfOk result (λ copy. copy ≡ self.now) }
     {

@@ -324,7 +324,8 @@ struct cfgx_step {
 /* Compiles a condition to its steps and its predicates. A program can keep both, and evaluate the
  * steps in any language, with values of any logic in which members may be joined in any order. It
  * can also build the condition's tree from them. The predicates are in the order of
- * `cfgx_predicates`. There are no more steps than bytes. To write the steps takes no memory.
+ * `cfgx_predicates`. There are no more predicates than steps, and no more steps than bytes. To
+ * write the steps takes no memory.
  *
  * Both buffers are filled, or neither. Returns CFGX_STATUS_DONE, CFGX_STATUS_FAULTY,
  * CFGX_STATUS_NOT_UTF8 or CFGX_STATUS_OUT_OF_MEMORY. */
@@ -349,8 +350,9 @@ uint32_t cfgx_apply(const struct cfgx_step *steps, size_t step_count,
                     const uint8_t *answers, size_t answer_count, uint8_t *value);
 
 /* Evaluates many conditions on many targets. Reads each text once for all targets, and each fact
- * once for all conditions. There are no values if one of them is faulty. So leave out the faulty texts, which `cfgx_check` finds, and the
- * faulty facts, which `cfgx_answers` finds, for instance with the text `true`.
+ * once for all conditions. There are no values if one of them is faulty. So leave out the faulty
+ * texts, which `cfgx_check` finds, and the faulty facts, which `cfgx_answers` finds, for instance
+ * with the text `true`.
  *
  * Numbering starts at 0. Target j has the facts from number `target_ends[j - 1]`, or from 0 for the
  * first target, up to but not including `target_ends[j]`, and answers by these and `otherwise` as
@@ -401,8 +403,8 @@ struct cfgx_token {
  * Returns CFGX_STATUS_DONE if nothing but white space stands behind the last token. Returns
  * CFGX_STATUS_FAULTY at the first character with which no token can start, or at a quote that is
  * never closed. Then the result is the tokens before it, and `fault` tells this fault, before which
- * `cfgx_check` may find another one. Otherwise returns CFGX_STATUS_NOT_UTF8 or
- * CFGX_STATUS_OUT_OF_MEMORY.
+ * `cfgx_check` may find another one. Otherwise returns CFGX_STATUS_NOT_UTF8 or, of a text with such
+ * a fault, CFGX_STATUS_OUT_OF_MEMORY.
  *
  * A first pass over the text counts the tokens, and a second one writes them. So a text without
  * such a fault takes no memory. */

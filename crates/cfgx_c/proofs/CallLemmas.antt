@@ -8,8 +8,9 @@ use Rattle.std.proofs.lemmas.List.{length-map, take_at}
 use Rattle.std.proofs.lemmas.Option.{slice_get-map}
 use Rattle.std.specs.List.{AllZip}
 use Rattle.std.specs.Prelude.{IsSomeAnd, slice_get}
-use Rattle.std.specs.Str.{IsUtf8}
-use Rattle.cfgx_syntax.specs.Stripping.{strip}
+use Rattle.std.specs.Str.{IsUtf8, IsValidUpTo}
+use Rattle.cfgx_syntax.proofs.TokenList.{ItemsFrom-same}
+use Rattle.cfgx_syntax.specs.{Error.Fault, Items.lexical, Stripping.strip, Stripping.strip_offset}
 use Rattle.cfgx_grammar.proofs.Answering.{only_tree}
 use Rattle.cfgx_grammar.specs.{Question.Question, Tree.asked}
 use Rattle.cfg_expr.proofs.stepped.Forests.{HasValue-one}
@@ -23,10 +24,13 @@ use Rattle.cfgx_engine.specs.declared.resolve.facts.Otherwise.{Otherwise}
 use Rattle.cfgx_c.specs.{Answers.AnswersOfFacts, Audit.ValuesBy, Buffer.FillsBoth}
 use Rattle.cfgx_c.specs.Faults.{HasNoUtf8}
 use Rattle.cfgx_c.specs.Steps.{Applies, AreCMiscounted, Compiles, HaveNoCValue, c_step, is_c_ask}
+use Rattle.cfgx_c.specs.Status.{done}
+use Rattle.cfgx_c.specs.Tokens.{HasLexicalFault, IsNoUtf8, ListsTokens, TellsLexical, c_token}
 use Rattle.cfgx_c.specs.Value.{HasValueByteOver, answer_of, byte_of_value}
 use Rattle.cfgx_c.specs.declared.fault.CfgxFault.{CfgxFault}
 use Rattle.cfgx_c.specs.declared.predicates.CfgxPredicate.{CfgxPredicate}
 use Rattle.cfgx_c.specs.declared.steps.CfgxStep.{CfgxStep}
+use Rattle.cfgx_c.specs.declared.tokens.CfgxToken.{CfgxToken}
 use Rattle.cfgx_c.proofs.CSteps.{count-c_steps, same_steps}
 
 -- a buffer with room begins with its items
@@ -167,7 +171,53 @@ HasValueByteOver-audited texts targets otherwise values answers i j text facts a
     (λ value. value_of_answers text facts otherwise answers value by) has
 
 -- bytes that are not UTF-8 have a place up to which they are valid, behind which no more are
-pub no_utf8 : (text : List ℕ) (fault : CfgxFault) → IsUtf8 text → ¬ HasNoUtf8 text fault
-no_utf8 text fault utf8 has =
-    let valid = has.1 in
+no_place : (text : List ℕ) (place : ℕ) → IsUtf8 text → ¬ IsValidUpTo text place
+no_place text place utf8 valid =
     valid.longest (length text) valid.short (rw (take-length text) utf8)
+
+pub no_utf8 : (text : List ℕ) (fault : CfgxFault) → IsUtf8 text → ¬ HasNoUtf8 text fault
+no_utf8 text fault utf8 has = no_place text has.0 utf8 has.1
+
+pub no_utf8_tokens : (text : List ℕ) (fault : CfgxFault) (offset : ℕ) → IsUtf8 text
+    → ¬ IsNoUtf8 text fault offset
+no_utf8_tokens text fault offset utf8 has = no_place text has.0 utf8 has.1
+
+-- Tokens that are listed twice.
+
+-- a lexical fault has one status and one fault as C sees it
+same_telling : (text : List ℕ) (found : Option Fault) (one other : ℕ) (fault others : CfgxFault)
+    → TellsLexical text found one fault → TellsLexical text found other others
+    → (one ≡ other) × (fault ≡ others)
+same_telling text None one other fault others this that =
+    (this.0 ∙ sym that.0, this.1 ∙ sym that.1)
+same_telling text (Some found) one other fault others this that =
+    (this.0 ∙ sym that.0, this.1 ∙ sym that.1)
+
+pub ListsTokens-same : (text : List ℕ) (one other : ℕ) (old new other_old other_new : List CfgxToken)
+    (needed other_needed : ℕ) (fault other_fault : CfgxFault)
+    → ListsTokens text one old new needed fault
+    → ListsTokens text other other_old other_new other_needed other_fault
+    → (one ≡ other) × (needed ≡ other_needed) × (fault ≡ other_fault)
+ListsTokens-same text one other old new other_old other_new needed other_needed fault other_fault
+    this that =
+    let same = ItemsFrom-same (strip text) 0 this.items that.items this.ending that.ending
+    this.are_items that.are_items in
+    let told = same_telling text (lexical (strip text) this.ending) one other fault other_fault
+    this.tells (subst (λ ending. TellsLexical text (lexical (strip text) ending) other other_fault)
+    same.1 that.tells) in
+    let count = ap (λ items. length (map (c_token (strip_offset text)) items)) same.0 in
+    (told.0, this.fills.0 ∙ sym count ∙ sym that.fills.0, told.1)
+
+told_done : (text : List ℕ) (found : Option Fault) (fault : CfgxFault)
+    → TellsLexical text found done fault → (error : Fault) → found ≡ Some error → ⊥
+told_done text None fault tells error is = cc
+told_done text (Some found) fault tells error is = let told = tells.0 in omega (arith, told)
+
+-- tokens that end well end at no fault
+pub ListsTokens-done : (text : List ℕ) (old new : List CfgxToken) (needed : ℕ) (fault : CfgxFault)
+    → ListsTokens text done old new needed fault → ¬ HasLexicalFault (strip text)
+ListsTokens-done text old new needed fault lists has =
+    let same = ItemsFrom-same (strip text) 0 lists.items has.items lists.ending has.ending
+    lists.are_items has.are_items in
+    told_done text (lexical (strip text) lists.ending) fault lists.tells has.fault
+    (ap (lexical (strip text)) (sym same.1) ∙ has.has)

@@ -76,6 +76,11 @@ module _ (text answers : List ℕ) (given : AreAnswersTo answers text) (one : Ha
   exact : IsExact one.tree (map answer_of answers)
   exact = IsExact-fold one.tree (map answer_of answers) counted
 
+-- the byte of a known value is not that of an unknown one
+not_unknown : (known : Bool) → byte_of_value (Some known) ≡ byte_of_value None → ⊥
+not_unknown true is = omega (arith, is)
+not_unknown false is = omega (arith, is)
+
 module _ (text answers : List ℕ) (given : AreAnswersTo answers text) where
   pub DecidesOver-known : (known : Bool) (old : List ℕ)
       → (one : HasOneTree text)
@@ -88,6 +93,7 @@ module _ (text answers : List ℕ) (given : AreAnswersTo answers text) where
         exact = exact text answers given one;
         value_is = ap byte_of_value is;
         fills = rw (← is) (refl, rw (le-leb 0 (length old) none) refl);
+        twice = λ unknown. absurd (not_unknown known unknown);
       }
 
   pub DecidesOver-unknown : (old new : List ℕ) (needed : ℕ)
@@ -100,4 +106,5 @@ module _ (text answers : List ℕ) (given : AreAnswersTo answers text) where
     exact = exact text answers given one;
     value_is = ap byte_of_value is;
     fills = rw (← is) (filled one);
+    twice = λ unknown. omega (arith, (filled one).0, length-both text answers given one);
   }

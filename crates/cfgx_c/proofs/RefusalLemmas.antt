@@ -21,7 +21,7 @@ use Rattle.cfgx_engine.specs.Facts.{IsRustcFact, ReadsFacts}
 use Rattle.cfgx_engine.specs.declared.resolve.facts.FactsError.TheVariants as facts_error
 use Rattle.cfgx_c.specs.Ends.{parts_from}
 use Rattle.cfgx_c.specs.Faults.{HasFactFault, HasFault, HasNoUtf8, IsFact, IsFirst, IsFirstOfFacts}
-use Rattle.cfgx_c.specs.Faults.{IsCondition}
+use Rattle.cfgx_c.specs.Faults.{IsCondition, IsFactFaultOf, IsFaultOf}
 use Rattle.cfgx_c.specs.Faults.{c_fault, fact_offset}
 use Rattle.cfgx_c.specs.Status.{faulty, faulty_fact, not_utf8}
 use Rattle.cfgx_c.specs.declared.fault.{CfgxFault.CfgxFault, Refusal.Refusal}
@@ -58,6 +58,20 @@ module _ (Good : List ℕ → Type 0) (Has : List ℕ → CfgxFault → Type 0) 
         has = first.has;
       }
 
+  -- the item is UTF-8, as all are
+  IsFirst-utf8 : (items : List (List ℕ)) (number : ℕ) (fault : CfgxFault) → All IsUtf8 items
+      → IsFirst Good Has items number fault
+      → IsFirst Good (λ item found. IsUtf8 item × Has item found) items number fault
+  IsFirst-utf8 items number fault utf8 first =
+      let below = slice_get_within items number first.item first.stands in
+      let item = get_or_from_slice_get items number first.item first.item first.stands in
+      record {
+        item = first.item;
+        stands = first.stands;
+        before = first.before;
+        has = (rw item at (utf8 number first.item below), first.has);
+      }
+
 -- facts that are read from texts in UTF-8
 pub all_facts : (facts : List (List ℕ)) → All IsUtf8 facts → All IsRustcFact facts
     → All IsFact facts
@@ -83,20 +97,36 @@ module _ (facts texts : List (List ℕ)) (refusal : Refusal) where
       → Refuses facts texts refusal
   Refuses-bytes good about = grind arith
 
-  pub Refuses-texts : All IsFact facts → All IsUtf8 texts
+  Refuses-faulty : All IsFact facts → All IsUtf8 texts
       → IsAbout faulty (IsThatOfFirst (λ text. HasOneTree (strip text)) HasFault texts) refusal
       → Refuses facts texts refusal
-  Refuses-texts good utf8 about = grind arith
+  Refuses-faulty good utf8 about = grind arith
+
+  pub Refuses-texts : All IsFact facts → All IsUtf8 texts
+      → IsAbout faulty (IsThatOfFirst (λ text. HasOneTree (strip text)) IsFaultOf texts) refusal
+      → Refuses facts texts refusal
+  Refuses-texts good utf8 (inl plain) = Refuses-faulty good utf8 (inl plain)
+  Refuses-texts good utf8 (inr (is, first)) = Refuses-faulty good utf8 (inr (
+    is,
+    IsFirst-utf8 (λ text. HasOneTree (strip text)) IsFaultOf texts refusal.fault.item
+        refusal.fault utf8 first,
+  ))
 
   -- of a call whose facts are UTF-8, and that finds a faulty one
   pub Refuses-read : All IsUtf8 facts
-      → IsAbout faulty_fact (IsFirstFrom 0 IsRustcFact HasFactFault facts) refusal
+      → IsAbout faulty_fact (IsFirstFrom 0 IsRustcFact IsFactFaultOf facts) refusal
       → Refuses facts texts refusal
   Refuses-read utf8 (inl plain) = Refuses-facts (inl plain)
   Refuses-read utf8 (inr (is, (index, number, first))) =
-      let same = subst (λ n. IsFirst IsRustcFact HasFactFault facts n refusal.fault)
+      let same = subst (λ n. IsFirst IsRustcFact IsFactFaultOf facts n refusal.fault)
       (omega (arith, number)) first in
-      Refuses-facts (inr (is, inr (utf8, same)))
+      Refuses-facts (inr (
+        is,
+        inr (
+          utf8,
+          IsFirst-utf8 IsRustcFact IsFactFaultOf facts refusal.fault.item refusal.fault utf8 same,
+        ),
+      ))
 
 -- of a call with one text that reads its facts
 pub Refuses-text : (facts : List (List ℕ)) (text : List ℕ) (refusal : Refusal) → All IsFact facts
@@ -137,7 +167,7 @@ item_seen slice index d item stands =
 pub text_refused : {A : Type 0} (slice : List (Bor (List ℕ))) (index : ℕ) (d : Bor (List ℕ))
     (failed : Failure A)
     → IfSome (failure_of {A = A} failed) (IsFirstFault (views slice) index)
-    → IsAbout faulty (IsThatOfFirst (λ text. HasOneTree (strip text)) HasFault (views slice))
+    → IsAbout faulty (IsThatOfFirst (λ text. HasOneTree (strip text)) IsFaultOf (views slice))
     (text_refusal {A = A} index (strip_offset (get_or slice index d).now) failed)
 text_refused {A} slice index d (failure.Memory refused) first = inl refl
 text_refused {A} slice index d (failure.Parse error) first =
@@ -159,7 +189,7 @@ text_refused {A} slice index d (failure.Parse error) first =
 pub fact_refused : {A : Type 0} (begin : ℕ) (slice : List (Bor (List ℕ))) (index : ℕ)
     (d : Bor (List ℕ)) (error : ParseError A)
     → ReadsFacts {A = A} IsRustcFact (views slice) (Err (facts_error.Faulty index error))
-    → IsFirstFrom begin IsRustcFact HasFactFault (views slice)
+    → IsFirstFrom begin IsRustcFact IsFactFaultOf (views slice)
     (c_fault (begin + index) (fact_offset (get_or slice index d).now) (fault_at {A = A} error))
 fact_refused {A} begin slice index d error first =
     let (found, reads, is) = first.parses in
@@ -194,16 +224,16 @@ module _ {T : Type 0} where
 -- the first faulty fact of a target is that of all
 pub IsAbout-piece : (facts : List (List ℕ)) (begin end : ℕ) (refusal : Refusal)
     → begin ≤ end → All IsRustcFact (take begin facts)
-    → IsAbout faulty_fact (IsFirstFrom begin IsRustcFact HasFactFault
+    → IsAbout faulty_fact (IsFirstFrom begin IsRustcFact IsFactFaultOf
     (slice_range facts begin end)) refusal
-    → IsAbout faulty_fact (IsFirstFrom 0 IsRustcFact HasFactFault facts) refusal
+    → IsAbout faulty_fact (IsFirstFrom 0 IsRustcFact IsFactFaultOf facts) refusal
 IsAbout-piece facts begin end refusal rises good (inl plain) = inl plain
 IsAbout-piece facts begin end refusal rises good (inr (is, (index, number, first))) = inr (
   is,
   (
     begin + index,
     omega (arith, number),
-    IsFirst-piece IsRustcFact HasFactFault facts begin end index refusal.fault rises good first,
+    IsFirst-piece IsRustcFact IsFactFaultOf facts begin end index refusal.fault rises good first,
   ),
 )
 
@@ -230,7 +260,8 @@ RefusesText-failure {A} text (failure.Parse error) utf8 (found, is, reads) =
     let first = IsFirst-seam (λ text. HasOneTree (strip text)) HasFault [] text []
     (c_fault 0 (strip_offset text) (fault_at {A = A} error))
     (All-nil (λ text. HasOneTree (strip text)))
-    (found, reads, ap (c_fault 0 (strip_offset text)) (same_fault {A = A} _ error found is)) in
+    (utf8, (found, reads, ap (c_fault 0 (strip_offset text)) (same_fault {A = A} _ error found is)))
+    in
     let none = All-nil IsFact in
     let all = All-cons IsUtf8 text [] utf8 (All-nil IsUtf8) in
     grind arith

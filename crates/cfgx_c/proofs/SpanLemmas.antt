@@ -33,7 +33,7 @@ module _ (text : List ℕ) (fault : CfgxFault) where
       rw is (lies_behind text part offset found.start found.end within lies)
 
   HasSpanIn-fault : HasFault text fault → HasSpanIn fault text
-  HasSpanIn-fault (found, reads, is) =
+  HasSpanIn-fault (utf8, (found, reads, is)) =
       HasSpanIn-part (strip text) fault.item (strip_offset text) found (strip-stands text).1
       (IsSound-first (strip text) found reads.has).lies is
 
@@ -69,7 +69,7 @@ fact_stands (byte ∷ bytes) =
 
 HasSpanIn-fact : (fact : List ℕ) (fault : CfgxFault) → HasFactFault fact fault
     → HasSpanIn fault fact
-HasSpanIn-fact fact fault (not_read, found, reads, is) =
+HasSpanIn-fact fact fault (utf8, (not_read, found, reads, is)) =
     HasSpanIn-part fact fault (strip (fact_text fact)) fault.item (fact_offset fact) found
     (fact_stands fact) (IsSound-first (strip (fact_text fact)) found reads.has).lies is
 

@@ -19,7 +19,7 @@ use Rattle.cfgx_syntax.specs.declared.error.Failure.TheVariants as failure
 use Rattle.cfgx_syntax.specs.declared.error.ParseError.{ParseError}
 use Rattle.cfgx_syntax.specs.declared.lexer.LexerToken.{LexerToken}
 use Rattle.cfgx_c.specs.Buffer.{Fills}
-use Rattle.cfgx_c.specs.Tokens.{ListsTokens, Shows, TellsLexical, c_token}
+use Rattle.cfgx_c.specs.Tokens.{HasLexicalFault, ListsTokens, Shows, TellsLexical, c_token}
 use Rattle.cfgx_c.specs.declared.{fault.CfgxFault.CfgxFault, tokens.CfgxToken.CfgxToken}
 use Rattle.cfgx_c.specs.internal.Lexing.{AreTokens, HasTokenCount, HasTokens}
 use Rattle.cfgx_c.specs.internal.Refusals.{fault_at}
@@ -104,6 +104,18 @@ module _ {text : List ℕ} {offset : ℕ} {tokens : List CfgxToken} {now : Lexer
     ends = rw reads.of_text at gives.refused
         ∙ ap (λ (f : TextFault). Some (record { cause = f.cause; start = f.start; end = f.end }))
         (sym gives.fails);
+  }
+
+  -- the lexical fault is next, also where there is no memory for it
+  pub HasLexicalFault-next : (failed : Failure Global) (next : LexerState)
+      → GivesFault {A = Global} now failed next → HasLexicalFault text
+  HasLexicalFault-next failed next gives = record {
+    items = reads.items;
+    ending = gives.ending;
+    are_items = rw (append-nil reads.items)
+        at (reads.behind [] gives.ending (rw reads.of_text at gives.ends));
+    fault = gives.fault;
+    has = rw reads.of_text at gives.refused;
   }
 
 -- the tokens so far were written over those of the buffer, and as many are left as there is room

@@ -53,16 +53,24 @@ abbrev pub HasNoUtf8 : List ℕ → CfgxFault → Type 0
 HasNoUtf8 text fault = (start : ℕ) × IsValidUpTo text start
     × (fault ≡ utf8_fault fault.item start)
 
--- the text has this fault
-abbrev pub HasFault : List ℕ → CfgxFault → Type 0
-HasFault text fault = (found : Fault) × ReadsAs (strip text) (Err found)
+-- the stripped text has this fault
+abbrev pub IsFaultOf : List ℕ → CfgxFault → Type 0
+IsFaultOf text fault = (found : Fault) × ReadsAs (strip text) (Err found)
     × (fault ≡ c_fault fault.item (strip_offset text) found)
 
--- the fact is neither read nor passed over, and has this fault
-abbrev pub HasFactFault : List ℕ → CfgxFault → Type 0
-HasFactFault fact fault = ¬ IsRustcFact fact × (found : Fault)
+-- the text is UTF-8, and has this fault
+abbrev pub HasFault : List ℕ → CfgxFault → Type 0
+HasFault text fault = IsUtf8 text × IsFaultOf text fault
+
+-- the fact is neither read nor passed over, and its stripped text has this fault
+abbrev pub IsFactFaultOf : List ℕ → CfgxFault → Type 0
+IsFactFaultOf fact fault = ¬ IsRustcFact fact × (found : Fault)
     × ReadsAs (strip (fact_text fact)) (Err found)
     × (fault ≡ c_fault fault.item (fact_offset fact) found)
+
+-- the fact is UTF-8, is neither read nor passed over, and has this fault
+abbrev pub HasFactFault : List ℕ → CfgxFault → Type 0
+HasFactFault fact fault = IsUtf8 fact × IsFactFaultOf fact fault
 
 -- a text that is a condition
 abbrev pub IsCondition : List ℕ → Type 0

@@ -29,7 +29,7 @@ abbrev pub is_c_ask : CfgxStep → Bool
 is_c_ask step = step.kind == 2
 
 -- both buffers were filled: with the steps of the text's one tree, of which there are no more than
--- bytes, and with its predicates
+-- bytes, and with its predicates, of which there are no more than steps
 pub record Compiles (text : List ℕ) (old_steps new_steps : List CfgxStep) (steps_needed : ℕ)
     (old_predicates new_predicates : List CfgxPredicate) (predicates_needed : ℕ) : Type 0 where
   pub one : HasOneTree (strip text)
@@ -40,6 +40,7 @@ pub record Compiles (text : List ℕ) (old_steps new_steps : List CfgxStep) (ste
   pub steps_needed_is : steps_needed ≡ length (steps_of one.tree)
   pub few : steps_needed ≤ length text
   pub predicates_needed_is : predicates_needed ≡ length predicates
+  pub few_predicates : predicates_needed ≤ steps_needed
 
 -- there are as many answers as steps that ask
 abbrev pub AreCCounted : List CfgxStep → List ℕ → Type 0

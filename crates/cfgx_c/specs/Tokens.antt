@@ -56,6 +56,14 @@ pub record ListsTokens (text : List ℕ) (status : ℕ) (old new : List CfgxToke
   pub fills : Fills (map (c_token (strip_offset text)) items) old new needed
   pub tells : TellsLexical text (lexical (strip text) ending) status fault
 
+-- the tokens of the text end at a lexical fault
+pub record HasLexicalFault (text : List ℕ) : Type 0 where
+  pub items : List Item
+  pub ending : Ending
+  pub are_items : AreItems text items ending
+  pub fault : Fault
+  pub has : lexical text ending ≡ Some fault
+
 -- the fault has the first byte of the text that is no UTF-8, and there is no offset
 abbrev pub IsNoUtf8 : List ℕ → CfgxFault → ℕ → Type 0
 IsNoUtf8 text fault offset =

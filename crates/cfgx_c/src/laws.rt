@@ -13,9 +13,9 @@ ghost use Rattle.cfgx_c.specs.Audit.{ValuesBy};
 ghost use Rattle.cfgx_c.specs.Faults.{HasFactFault, HasFault, HasNoUtf8, IsCondition, IsFact};
 ghost use Rattle.cfgx_c.specs.Faults.{HasSpanIn, HasSpanInItem, Tells};
 ghost use Rattle.cfgx_c.specs.Predicates.{HasSpansIn, ListsPredicates};
-ghost use Rattle.cfgx_c.specs.Status.{faulty, faulty_fact, not_utf8};
+ghost use Rattle.cfgx_c.specs.Status.{done, faulty, faulty_fact, not_utf8};
 ghost use Rattle.cfgx_c.specs.Steps.{Applies, AreCMiscounted, Compiles, HaveNoCValue};
-ghost use Rattle.cfgx_c.specs.Tokens.{IsNoUtf8, ListsTokens};
+ghost use Rattle.cfgx_c.specs.Tokens.{HasLexicalFault, IsNoUtf8, ListsTokens};
 ghost use Rattle.cfgx_c.specs.Value.{HasOtherCount, HasValueByteOver, byte_of_value};
 ghost use Rattle.cfgx_c.specs.declared.fault.CfgxFault.{CfgxFault};
 ghost use Rattle.cfgx_c.specs.declared.predicates.CfgxPredicate.{CfgxPredicate};
@@ -71,15 +71,34 @@ pub fn has_value_in_one_way()
         → HasValueByteOver text answers value → ¬ HasOtherCount text answers }
 {}
 
-/// A text is a condition, has a fault, or is not UTF-8: no two of these. A fact that is read or
-/// passed over has no fault. So a call that reads conditions and facts has one status but for
-/// memory.
+/// A text is a condition, has a fault, or is not UTF-8: no two of these. A fact is read or passed
+/// over, has a fault, or is not UTF-8: no two of these either. So a call that reads conditions and
+/// facts has one status but for memory.
 pub fn reads_in_one_way()
     ensures no_fault { (text : List ℕ) (fault : CfgxFault) → IsCondition text
         → ¬ HasFault text fault }
     ensures utf8 { (text : List ℕ) (fault : CfgxFault) → IsUtf8 text → ¬ HasNoUtf8 text fault }
+    ensures fault_utf8 { (text : List ℕ) (fault other : CfgxFault) → HasFault text fault
+        → ¬ HasNoUtf8 text other }
     ensures no_fact_fault { (fact : List ℕ) (fault : CfgxFault) → IsFact fact
         → ¬ HasFactFault fact fault }
+    ensures fact_fault_utf8 { (fact : List ℕ) (fault other : CfgxFault) → HasFactFault fact fault
+        → ¬ HasNoUtf8 fact other }
+{}
+
+/// A text has one status of `cfgx_tokens`, one number of tokens and one fault, but for memory.
+/// Memory is taken for a lexical fault alone: a text that has the status `DONE` has none, so it is
+/// never out of memory. A text in UTF-8 never has a byte that is none.
+pub fn lists_tokens_in_one_way()
+    ensures same { (text : List ℕ) (one other : ℕ) (old new other_old other_new : List CfgxToken)
+        (needed other_needed : ℕ) (fault other_fault : CfgxFault)
+        → ListsTokens text one old new needed fault
+        → ListsTokens text other other_old other_new other_needed other_fault
+        → (one ≡ other) × (needed ≡ other_needed) × (fault ≡ other_fault) }
+    ensures done { (text : List ℕ) (old new : List CfgxToken) (needed : ℕ) (fault : CfgxFault)
+        → ListsTokens text done old new needed fault → ¬ HasLexicalFault (strip text) }
+    ensures utf8 { (text : List ℕ) (fault : CfgxFault) (offset : ℕ) → IsUtf8 text
+        → ¬ IsNoUtf8 text fault offset }
 {}
 
 /// The span of a fault lies in the text or the fact that has its number, as this was passed: the

@@ -7,7 +7,7 @@ ghost use Rattle.cfgx_syntax.specs.Stripping.{strip, strip_offset};
 ghost use Rattle.cfg_expr.specs.Given.{AreAnswersTo};
 ghost use Rattle.cfgx_engine.specs.Facts.{IsRustcFact, NameAlike, texts_of};
 ghost use Rattle.cfgx_c.specs.Ends.{AreEnds, parts};
-ghost use Rattle.cfgx_c.specs.Faults.{HasFactFault, IsCondition, fact_offset};
+ghost use Rattle.cfgx_c.specs.Faults.{IsCondition, IsFactFaultOf, fact_offset};
 ghost use Rattle.cfgx_c.specs.Status.{faulty_fact, miscounted, not_utf8};
 ghost use Rattle.cfgx_c.specs.Value.{HasOtherCount};
 ghost use Rattle.cfgx_c.specs.internal.Refusals.{IsAbout, IsFirstFrom, IsStripped};
@@ -113,7 +113,7 @@ pub(crate) fn read_facts(alloc: Global, begin: usize, facts: &[&str]) -> Result<
     ensures ok { IfOk result (λ read. All IsRustcFact (views facts.now)
         × NameAlike read (texts_of (views facts.now))) }
     ensures err { IfErr result
-        (IsAbout faulty_fact (IsFirstFrom begin IsRustcFact HasFactFault (views facts.now))) }
+        (IsAbout faulty_fact (IsFirstFrom begin IsRustcFact IsFactFaultOf (views facts.now))) }
 {
     match Facts::from_rustc(alloc, facts) {
         Ok(read) => Ok(read),
@@ -139,7 +139,7 @@ pub(crate) fn read_targets(
         × AllZip (λ facts read. NameAlike read (texts_of facts))
         (parts target_ends.now (views facts.now)) targets.items) }
     ensures err { IfErr result
-        (IsAbout faulty_fact (IsFirstFrom 0 IsRustcFact HasFactFault (views facts.now))) }
+        (IsAbout faulty_fact (IsFirstFrom 0 IsRustcFact IsFactFaultOf (views facts.now))) }
 {
     let mut targets = Vec::with_capacity(alloc, target_ends.len())?;
     let mut begin = 0;

@@ -3,11 +3,12 @@
 ghost use Rattle.std.specs.Prelude.{◌≡◌, ◌≢◌, ◌<◌, ◌+◌, ◌^◌, List, [], ◌∷◌, IfOk, OnErr, length};
 ghost use Rattle.std.specs.Str.{IsUtf8};
 ghost use Rattle.cfgx_syntax.specs.Lexer.{item_of, token_of};
-ghost use Rattle.cfgx_syntax.specs.Stripping.{strip_offset};
+ghost use Rattle.cfgx_syntax.specs.Stripping.{strip, strip_offset};
 ghost use Rattle.cfgx_c.specs.Buffer.{Fills};
 ghost use Rattle.cfgx_c.specs.Faults.{no_fault};
 ghost use Rattle.cfgx_c.specs.Status.{IsOneOf, done, faulty, not_utf8, out_of_memory};
-ghost use Rattle.cfgx_c.specs.Tokens.{IsNoUtf8, ListsTokens, c_token, token_number};
+ghost use Rattle.cfgx_c.specs.Tokens.{HasLexicalFault, IsNoUtf8, ListsTokens, c_token};
+ghost use Rattle.cfgx_c.specs.Tokens.{token_number};
 ghost use Rattle.cfgx_c.specs.declared.tokens.CfgxToken.{CfgxToken};
 ghost use Rattle.cfgx_c.specs.internal.Lexing.{AreTokens, HasTokenCount, HasTokens};
 
@@ -64,14 +65,15 @@ fn c_token(lexed: &LexerToken<'_>, offset: usize) -> CfgxToken
 /// Returns the number of tokens of a text up to its lexical fault, and this fault if it has one.
 /// Takes no memory for a text without one.
 ///
-/// The error is that `alloc` refused memory.
+/// The error is that `alloc` refused memory for the fault.
 fn count_tokens(
     alloc: Global,
     stripped: Stripped<'_>,
 ) -> Result<(usize, Option<ParseError>), AllocError>
-    ensures { IfOk result (λ counted. (tokens : List CfgxToken)
+    ensures ok { IfOk result (λ counted. (tokens : List CfgxToken)
         × HasTokens stripped.entry.text.now stripped.entry.offset tokens counted.1
         × (counted.0 ≡ length tokens)) }
+    ensures err { OnErr result (HasLexicalFault stripped.entry.text.now) }
 {
     let mut count = 0;
     for lexed in Lexer::of_stripped(alloc, stripped) {
@@ -104,7 +106,7 @@ fn write_tokens(alloc: Global, stripped: Stripped<'_>, buffer: &mut [CfgxToken])
 /// fault if the text has one. A first pass over the text counts the tokens and finds the fault, and
 /// a second one writes them if there is room.
 ///
-/// The error is that `alloc` refused memory.
+/// The error is that `alloc` refused memory for the fault.
 fn fill_tokens(
     alloc: Global,
     stripped: Stripped<'_>,
@@ -115,6 +117,7 @@ fn fill_tokens(
         × HasTokens stripped.entry.text.now stripped.entry.offset tokens found.1
         × Fills tokens buffer.old buffer.new found.0) }
     ensures kept { OnErr result (buffer.new ≡ buffer.old) }
+    ensures err { OnErr result (HasLexicalFault stripped.entry.text.now) }
 {
     let (count, error) = count_tokens(alloc, stripped)?;
     if count <= buffer.len() {
@@ -131,9 +134,9 @@ fn fill_tokens(
 /// closed: then the tokens are those before that place, and `fault` becomes what is wrong there. In
 /// both cases `offset` becomes the number of bytes that stand before the stripped text.
 ///
-/// Returns `NOT_UTF8` if the text is not UTF-8, and `OUT_OF_MEMORY` if memory was refused. Then
-/// `needed` becomes 0, and `tokens` is unchanged. With the first of these `offset` becomes 0, and
-/// `fault` what `cfgx_check` makes of it.
+/// Returns `NOT_UTF8` if the text is not UTF-8, and `OUT_OF_MEMORY` if it has such a fault and memory
+/// was refused. Then `needed` becomes 0, and `tokens` is unchanged. With the first of these `offset`
+/// becomes 0, and `fault` what `cfgx_check` makes of it.
 #[unsafe(no_mangle)]
 pub extern "C" fn cfgx_tokens(
     alloc: Global,
@@ -149,6 +152,7 @@ pub extern "C" fn cfgx_tokens(
     ensures utf8 { result ≢ not_utf8 → IsUtf8 text.now }
     ensures offset { result ≢ not_utf8 → offset.new ≡ strip_offset text.now }
     ensures none { result ≡ out_of_memory → fault.new ≡ no_fault }
+    ensures memory { result ≡ out_of_memory → HasLexicalFault (strip text.now) }
     ensures kept { IsOneOf result (out_of_memory ∷ not_utf8 ∷ [])
         → (tokens.new ≡ tokens.old) × (needed.new ≡ 0) }
     ensures status { IsOneOf result (done ∷ faulty ∷ not_utf8 ∷ out_of_memory ∷ []) }

@@ -82,6 +82,16 @@ module _ {T : Type 0} (Answers : T → Question → Option Bool → Type 0) (con
             (slice_get_cases conditions i).1;
       }
 
+-- the values of the condition at `i` are added to those of the conditions before it
+pub AreValues-next : {T : Type 0} (Answers : T → Question → Option Bool → Type 0) (targets : List T)
+    (conditions : List (List ℕ)) (i : ℕ) (d : List ℕ) (old new : List (Option Bool))
+    → i < length conditions → AreValues Answers (take i conditions) targets old
+    → AddsEach (Tells Answers (get_or conditions i d) targets) targets old new
+    → AreValues Answers (take (i + 1) conditions) targets new
+AreValues-next Answers targets conditions i d old new below are adds =
+    rw (take_more conditions i d below) (AreValues-more Answers (get_or conditions i d) targets
+    (take i conditions) old new are adds)
+
 -- the condition at `i` and its values are added to those before it
 pub values-more : {T : Type 0} (Answers : T → Question → Option Bool → Type 0) (targets : List T)
     (conditions : List (Bor (List ℕ))) (i : ℕ) (d : Bor (List ℕ)) (old new : List (Option Bool))

@@ -18,7 +18,7 @@ mod index;
 mod named;
 
 use auditing::push_values;
-pub use by_facts::{AuditError, audit_facts};
+pub use by_facts::{AuditError, audit_conditions, audit_facts};
 use cfg_expr::expr::{Condition, Predicates, TargetMatcher};
 use cfg_expr::memory::SmallAllocator;
 use cfg_expr::{Decision, Expression, Predicate};

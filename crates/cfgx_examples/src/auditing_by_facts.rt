@@ -1,6 +1,7 @@
 //! Tests that conditions have their values on targets that are known by their facts.
+use cfg_expr::Expression;
 use cfg_expr::error::Failure;
-use cfgx_engine::resolve::{AuditError, Facts, Otherwise, audit_facts};
+use cfgx_engine::resolve::{AuditError, Facts, Otherwise, audit_conditions, audit_facts};
 use cfgx_testing::answers::{Answer, answer_of};
 use std::alloc::Global;
 
@@ -72,8 +73,28 @@ fn are_values(values: Option<&[Answer]>, count: usize, digits: &[u8]) -> bool {
     values.len() == count
 }
 
+// Returns whether an audit of both conditions finds these values.
+fn conditions_agree(
+    alloc: Global,
+    one: &Expression,
+    other: &Expression,
+    targets: &[Facts],
+    otherwise: Otherwise,
+    values: &[Answer],
+) -> bool {
+    match audit_conditions(
+        alloc,
+        &[one.condition(), other.condition()],
+        targets,
+        otherwise,
+    ) {
+        Ok(found) => found.as_slice() == values,
+        Err(_) => false,
+    }
+}
+
 // Returns whether an audit of `text` and of `all()` on `count` targets finds the values of
-// `digits`, and then as many true values.
+// `digits`, and then as many true values, also if both are read already.
 fn audit_agrees(
     alloc: Global,
     text: &str,
@@ -84,9 +105,14 @@ fn audit_agrees(
     let targets = targets_with_facts(alloc, count)?;
     let found = audit_facts(alloc, &[text, "all()"], targets.as_slice(), otherwise).ok()?;
     let values = found.as_slice();
+    let (one, other) = (
+        Expression::parse(alloc, text).ok()?,
+        Expression::parse(alloc, "all()").ok()?,
+    );
     Some(
         are_values(values.get(..count), count, digits)
-            && are_values(values.get(count..), count, b"111"),
+            && are_values(values.get(count..), count, b"111")
+            && conditions_agree(alloc, &one, &other, targets.as_slice(), otherwise, values),
     )
 }
 

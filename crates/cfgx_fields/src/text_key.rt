@@ -1,5 +1,7 @@
 //! The keys of a target whose value is any text.
 
+pub mod laws;
+
 /// A key of a target whose value is any text.
 #[derive(Clone, Copy, Debug, PartialEq, Eq)]
 pub enum TextKey {

@@ -102,7 +102,7 @@ fn combine(outcomes: &[Outcome]) -> Outcome {
 const TABLES: &[TableToCheck<'_>] = &[
     ("each growth of a call on a text", texts::TEXTS, 49),
     ("each growth of each run", runs::RUNS, 32),
-    ("each growth of each other call", calls::CALLS, 43),
+    ("each growth of each other call", calls::CALLS, 45),
     ("memory of decisions", decisions::DECISIONS, 8),
     ("memory of a reader", reading::READ, 10),
     ("index of a refused growth", audits::AUDITED, 3),

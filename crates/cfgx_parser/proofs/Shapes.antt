@@ -26,10 +26,12 @@ module _ {X Y : Type 0} {R : X → Y → Type 0} where
     same_nodes _ _ (Alike.literal truth) = (refl, λ place. refl)
     same_nodes _ _ (Alike.list function xs ys each) =
         let (counts, shapes, places) = same_members xs ys each in
-        (rw (counts, shapes) refl, λ place. ap (Tree.list function) (places (place + 1)))
+        let long = length-same (prefix_each xs) (prefix_each ys) shapes in
+        (rw (counts, shapes, long) refl, λ place. ap (Tree.list function) (places (place + 1)))
     same_nodes _ _ (Alike.not x y alike) =
         let (shapes, places) = same_nodes x y alike in
-        (rw shapes refl, λ place. ap Tree.not (places (place + 1)))
+        let long = length-same (prefix x) (prefix y) shapes in
+        (rw (shapes, long) refl, λ place. ap Tree.not (places (place + 1)))
 
     same_members : (xs : Trees X) (ys : Trees Y) → AlikeEach R xs ys → SameMembers xs ys
     same_members _ _ AlikeEach.none = (refl, refl, λ place. refl)

@@ -8,8 +8,14 @@ use crate::located::{LocatedPredicate, Span};
 /// A node of a condition. The nodes are in source order: a function stands before its members.
 #[derive(Clone, Copy, Debug)]
 pub enum ExprNode {
-    /// A function, with the number of its members
-    Fn(Func),
+    /// A function
+    Fn {
+        /// The function, with the number of its members
+        func: Func,
+        /// The number of nodes of its subtree, itself among them. The next node behind the
+        /// subtree is so many places behind this one
+        len: usize,
+    },
     /// A predicate
     Predicate(LocatedPredicate),
     /// `true` or `false`

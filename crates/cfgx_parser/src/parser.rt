@@ -244,6 +244,7 @@ impl<'a, A: SmallAllocator> Parser<'a, A> {
     ghost use Rattle.cfgx_parser.specs.parsing.Parser.{closed_at, concluded, HaltsAs, ReadsAll};
 
     /// Returns a parser that has read nothing of a text of `len` bytes.
+    #[inline(always)]
     pub fn new(alloc: A, len: usize) -> Self
         ensures { state_of result ≡ initial }
     {
@@ -557,6 +558,7 @@ impl<'a, A: SmallAllocator> Parser<'a, A> {
     }
 
     /// Returns the nodes that were written, and the places of the predicates among them.
+    #[inline(always)]
     pub fn into_parts(self) -> (SmallVec<ExprNode, 5, A>, SmallVec<usize, 4, A>)
         ensures nodes { result.0 ≡ self.entry.writer.nodes }
         ensures places { result.1 ≡ self.entry.writer.places }

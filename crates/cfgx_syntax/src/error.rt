@@ -3,7 +3,8 @@
 ghost use Rattle.std.specs.Prelude.{◌≡◌, ◌↔◌, IsTrue, Some, codes, map, replicate};
 ghost use Rattle.std.specs.List.{repeat};
 ghost use Rattle.std.specs.Fmt.{DisplaysOnOk};
-ghost use Rattle.cfgx_syntax.specs.Error.{cause_of, fault_in, marks, more_terms_text, only_byte};
+ghost use Rattle.cfgx_syntax.specs.Error.{cause_of, error_text, fault_in, marks};
+ghost use Rattle.cfgx_syntax.specs.Error.{more_terms_text, only_byte};
 ghost use Rattle.cfgx_syntax.specs.Error.{opening_words, quoted, texts_eq, unexpected_text};
 ghost use Rattle.cfgx_syntax.specs.Error.{FailsWith};
 
@@ -25,7 +26,7 @@ const CARETS: &str = "^^^^^^^^^^^^^^^^^^^^^^^^^^^^^^^^^^^^^^^^^^^^^^^^^^^^^^^^^^
 pub enum Reason {
     /// A `not` with no member or several. The field is the number of its members.
     InvalidNot(usize),
-    /// Characters that no expression has. No call of this crate returns it.
+    /// Characters that no expression has. No text has this fault.
     InvalidCharacters,
     /// A parenthesis is never closed.
     UnclosedParens,
@@ -33,7 +34,7 @@ pub enum Reason {
     UnopenedParens,
     /// A quote is never closed.
     UnclosedQuotes,
-    /// A quote is closed that was never opened. No call of this crate returns it.
+    /// A quote is closed that was never opened. No text has this fault.
     UnopenedQuotes,
     /// The text has no predicate, literal or function.
     Empty,
@@ -47,7 +48,7 @@ pub enum Reason {
     MultipleRootPredicates,
     /// The width of an atomic is neither an integer nor `ptr`.
     InvalidHasAtomic,
-    /// A built-in name that is not known. No call of this crate returns it.
+    /// A built-in name that is not known. No text has this fault.
     UnknownBuiltin,
 }
 
@@ -273,8 +274,8 @@ impl Reason {
         }
     }
 
-    // Returns the reason in a few words, without its number and its terms.
-    fn description(self) -> &'static str
+    /// Returns the reason in a few words, without its number and its terms.
+    pub fn description(self) -> &'static str
         ensures { result.now ≡ description_of (cause_of self) }
     {
         match self {
@@ -371,17 +372,31 @@ impl<A: Allocator> fmt::Display for ParseError<A> {
     ghost output = { λ error. Some (error_text (fault_of error)) };
 
     fn fmt<W: fmt::Write>(&self, f: &mut fmt::Formatter<W>) -> fmt::Result {
-        f.write_str(self.original.as_str())?;
-        f.write_str("\n")?;
-        write_spaces(f, self.span.start)?;
-        write_marks(
-            f,
-            self.span.end.saturating_sub(self.span.start),
-            self.reason,
-        )?;
-        f.write_str(" ")?;
-        f.write(self.reason)
+        write_fault(f, self.original.as_str(), &self.span, self.reason)
     }
+}
+
+/// Writes the fault `reason` at the bytes `span` of `original`, as a `ParseError` is printed: the
+/// text, a line feed, the marks below the span, and the reason.
+pub fn write_fault<W: fmt::Write>(
+    f: &mut fmt::Formatter<W>,
+    original: &str,
+    span: &Range<usize>,
+    reason: Reason,
+) -> fmt::Result
+    ensures { DisplaysOnOk W.write_str_gives f.old result
+        (Some (error_text (fault_in original.now (record {
+          cause = cause_of reason;
+          start = span.now.start;
+          end = span.now.end;
+        })))) f.new }
+{
+    f.write_str(original)?;
+    f.write_str("\n")?;
+    write_spaces(f, span.start)?;
+    write_marks(f, span.end.saturating_sub(span.start), reason)?;
+    f.write_str(" ")?;
+    f.write(reason)
 }
 
 // Writes the marks below a span of `width` bytes.

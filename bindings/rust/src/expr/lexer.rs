@@ -1,54 +1,43 @@
 //! The tokens of a text.
 
+use crate::engine::cfgx_syntax::lexer;
+use crate::engine::rattle::alloc::Global;
 use crate::error::ParseError;
-use crate::{ffi, numbers};
-use std::fmt;
 use std::iter::FusedIterator;
-use std::ops::Range;
-use std::vec;
 
-/// A token of a text. It prints what `Debug` prints.
-#[derive(Clone, Debug, PartialEq, Eq)]
-pub enum Token<'a> {
-    /// A word other than `all`, `any` and `not`
-    Key(&'a str),
-    /// The text between two quotes
-    Value(&'a str),
-    /// `=`
-    Equals,
-    /// `all`
-    All,
-    /// `any`
-    Any,
-    /// `not`
-    Not,
-    /// `(`
-    OpenParen,
-    /// `)`
-    CloseParen,
-    /// `,`
-    Comma,
-}
+/// A token of a text.
+///
+/// ```
+/// use cfgx::expr::lexer::Token;
+///
+/// assert_eq!(Token::Key("unix").to_string(), "Key(\"unix\")");
+/// ```
+pub use crate::engine::cfgx_syntax::lexer::Token;
 
-impl fmt::Display for Token<'_> {
-    fn fmt(&self, f: &mut fmt::Formatter<'_>) -> fmt::Result {
-        fmt::Debug::fmt(self, f)
+/// A token, and where it stands.
+///
+/// ```
+/// use cfgx::expr::lexer::{Lexer, Token};
+///
+/// let first = Lexer::new("cfg(all())").next().unwrap()?;
+/// assert_eq!((first.token, first.span), (Token::All, 0..3));
+/// # Ok::<(), cfgx::ParseError>(())
+/// ```
+pub use crate::engine::cfgx_syntax::lexer::LexerToken;
+
+impl PartialEq for LexerToken<'_> {
+    fn eq(&self, other: &Self) -> bool {
+        self.token == other.token && self.span == other.span
     }
 }
 
-/// A token, and where it stands.
-#[derive(Clone, Debug, PartialEq, Eq)]
-pub struct LexerToken<'a> {
-    /// The token
-    pub token: Token<'a>,
-    /// The bytes that spell it, with both quotes of a value, in the text without an outer `cfg( )`
-    pub span: Range<usize>,
-}
+impl Eq for LexerToken<'_> {}
 
 /// An iterator over the tokens of a text, which need not be a condition.
 ///
-/// If somewhere no token can start, or a quote is never closed, the last item is an error. The
-/// error of [`Expression::parse`](super::Expression::parse) may be one before it.
+/// It reads a token at each call of `next`. If somewhere no token can start, or a quote is never
+/// closed, the last item is an error. The error of
+/// [`Expression::parse`](super::Expression::parse) may be one before it.
 ///
 /// ```
 /// use cfgx::expr::lexer::{Lexer, LexerToken, Token};
@@ -62,57 +51,30 @@ pub struct LexerToken<'a> {
 /// # Ok::<(), cfgx::ParseError>(())
 /// ```
 pub struct Lexer<'a> {
-    text: &'a str,
-    /// The number of bytes of `text` before the text without an outer `cfg( )`
-    offset: usize,
-    tokens: vec::IntoIter<ffi::Token>,
-    error: Option<ParseError>,
+    inner: lexer::Lexer<'a>,
 }
 
 impl<'a> Lexer<'a> {
-    /// Returns a lexer of `text`, which may stand in `cfg( )`. It finds all tokens at once.
+    /// Returns a lexer of `text`, which may stand in `cfg( )`.
     #[must_use]
     pub fn new(text: &'a str) -> Self {
-        let ffi::Tokens {
-            tokens,
-            offset,
-            fault,
-        } = ffi::tokens(text);
         Lexer {
-            text,
-            offset,
-            tokens: tokens.into_iter(),
-            error: fault.map(|fault| ParseError::new(text, &fault)),
+            inner: lexer::Lexer::new(Global, text),
         }
-    }
-
-    /// Returns a token of the text as a value.
-    fn token_of(&self, found: &ffi::Token) -> LexerToken<'a> {
-        let text = &self.text[found.start..found.end];
-        let token = match found.kind {
-            numbers::TOKEN_KEY => Token::Key(text),
-            numbers::TOKEN_VALUE => Token::Value(&text[1..text.len() - 1]),
-            numbers::TOKEN_EQUALS => Token::Equals,
-            numbers::TOKEN_ALL => Token::All,
-            numbers::TOKEN_ANY => Token::Any,
-            numbers::TOKEN_NOT => Token::Not,
-            numbers::TOKEN_OPEN_PAREN => Token::OpenParen,
-            numbers::TOKEN_CLOSE_PAREN => Token::CloseParen,
-            numbers::TOKEN_COMMA => Token::Comma,
-            kind => unreachable!("token {kind}"),
-        };
-        let span = found.start - self.offset..found.end - self.offset;
-        LexerToken { token, span }
     }
 }
 
 impl<'a> Iterator for Lexer<'a> {
     type Item = Result<LexerToken<'a>, ParseError>;
 
+    #[inline]
     fn next(&mut self) -> Option<Self::Item> {
-        match self.tokens.next() {
-            Some(found) => Some(Ok(self.token_of(&found))),
-            None => self.error.take().map(Err),
+        match self.inner.next()? {
+            Ok(token) => Some(Ok(token)),
+            Err(failure) => {
+                let len = self.inner.original().len();
+                Some(Err(ParseError::new(failure, len)))
+            }
         }
     }
 }

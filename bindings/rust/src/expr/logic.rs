@@ -32,88 +32,10 @@
 ///
 /// let expression = Expression::parse("any(all(a, b), not(c))").unwrap();
 /// assert_eq!(expression.eval(|_| Most(1)).0, 2);
-/// ```
-pub trait Logic {
-    /// Returns the value of an `all` without members.
-    fn top() -> Self;
-
-    /// Returns the value of an `any` without members.
-    fn bottom() -> Self;
-
-    /// Returns the conjunction of both.
-    fn and(self, other: Self) -> Self;
-
-    /// Returns the disjunction of both.
-    fn or(self, other: Self) -> Self;
-
-    /// Returns the negation.
-    fn not(self) -> Self;
-}
-
-/// Truth values.
 ///
-/// ```
-/// use cfgx::expr::Logic;
-///
+/// // A value that may be unknown is known if it is the same whatever the unknown ones are.
 /// assert!(bool::top().and(bool::bottom().not()));
-/// ```
-impl Logic for bool {
-    fn top() -> Self {
-        true
-    }
-
-    fn bottom() -> Self {
-        false
-    }
-
-    fn and(self, other: Self) -> Self {
-        self && other
-    }
-
-    fn or(self, other: Self) -> Self {
-        self || other
-    }
-
-    fn not(self) -> Self {
-        !self
-    }
-}
-
-/// Truth values that may be unknown, which is `None`. A value is known if it is the same whatever
-/// the unknown ones are.
-///
-/// ```
-/// use cfgx::expr::Logic;
-///
 /// assert_eq!(Logic::and(Some(false), None), Some(false));
 /// assert_eq!(Logic::and(Some(true), None), None);
 /// ```
-impl Logic for Option<bool> {
-    fn top() -> Self {
-        Some(true)
-    }
-
-    fn bottom() -> Self {
-        Some(false)
-    }
-
-    fn and(self, other: Self) -> Self {
-        match (self, other) {
-            (Some(false), _) | (_, Some(false)) => Some(false),
-            (Some(true), Some(true)) => Some(true),
-            _ => None,
-        }
-    }
-
-    fn or(self, other: Self) -> Self {
-        match (self, other) {
-            (Some(true), _) | (_, Some(true)) => Some(true),
-            (Some(false), Some(false)) => Some(false),
-            _ => None,
-        }
-    }
-
-    fn not(self) -> Self {
-        self.map(|value| !value)
-    }
-}
+pub use crate::engine::cfgx_syntax::logic::Logic;

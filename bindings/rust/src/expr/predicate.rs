@@ -1,6 +1,10 @@
 //! What a condition asks.
 
+use crate::engine::cfgx_fields::text_key::TextKey;
+use crate::engine::cfgx_parser::asked::{Asked, AskedTarget};
+use crate::engine::cfgx_parser::located::LocatedPredicate;
 use crate::targets::{Abi, Arch, Endian, Env, Family, HasAtomic, Os, Panic, TargetInfo, Vendor};
+use std::borrow::Cow;
 
 /// A predicate on the target that is compiled for.
 ///
@@ -37,6 +41,20 @@ pub enum TargetPredicate {
 }
 
 impl TargetPredicate {
+    /// Returns the predicate that asks for this value of a key.
+    #[inline(always)]
+    fn of(key: TextKey, value: Cow<'static, str>) -> Self {
+        match key {
+            TextKey::Abi => TargetPredicate::Abi(Abi(value)),
+            TextKey::Arch => TargetPredicate::Arch(Arch(value)),
+            TextKey::Env => TargetPredicate::Env(Env(value)),
+            TextKey::Family => TargetPredicate::Family(Family(value)),
+            TextKey::Os => TargetPredicate::Os(Os(value)),
+            TextKey::Panic => TargetPredicate::Panic(Panic(value)),
+            TextKey::Vendor => TargetPredicate::Vendor(Vendor(value)),
+        }
+    }
+
     /// Returns whether the predicate is true of `target`.
     ///
     /// ```
@@ -80,6 +98,7 @@ pub trait TargetMatcher {
 /// A missing field is read as the empty text for the ABI and the environment, as `none` for the
 /// operating system, and as `unknown` for the vendor.
 impl TargetMatcher for TargetInfo {
+    #[inline]
     fn matches(&self, tp: &TargetPredicate) -> bool {
         match tp {
             TargetPredicate::Abi(abi) => text_of(&self.abi, "") == abi.as_str(),
@@ -135,41 +154,92 @@ pub enum Predicate<'a> {
     },
 }
 
-impl TargetPredicate {
-    /// Returns the key, and the value without its quotes.
-    fn parts(&self) -> (&'static str, String) {
-        let text = |text: &str| text.to_string();
-        match self {
-            TargetPredicate::Abi(abi) => ("target_abi", text(abi.as_str())),
-            TargetPredicate::Arch(arch) => ("target_arch", text(arch.as_str())),
-            TargetPredicate::Endian(Endian::big) => ("target_endian", text("big")),
-            TargetPredicate::Endian(Endian::little) => ("target_endian", text("little")),
-            TargetPredicate::Env(env) => ("target_env", text(env.as_str())),
-            TargetPredicate::Family(family) => ("target_family", text(family.as_str())),
-            TargetPredicate::HasAtomic(width) => ("target_has_atomic", width.to_string()),
-            TargetPredicate::Os(os) => ("target_os", text(os.as_str())),
-            TargetPredicate::Panic(panic) => ("panic", text(panic.as_str())),
-            TargetPredicate::PointerWidth(bits) => ("target_pointer_width", bits.to_string()),
-            TargetPredicate::Vendor(vendor) => ("target_vendor", text(vendor.as_str())),
-        }
+/// The predicate that asks for a named value, and the text of this value.
+pub(crate) struct Named {
+    pub(crate) predicate: Predicate<'static>,
+    pub(crate) text: &'static str,
+}
+
+/// Returns what is known of the value of a key that has these bytes, if it is a named one.
+#[inline(always)]
+fn named(key: TextKey, value: &[u8]) -> Option<&'static Named> {
+    match key {
+        TextKey::Abi => Abi::named(value),
+        TextKey::Arch => Arch::named(value),
+        TextKey::Env => Env::named(value),
+        TextKey::Family => Family::named(value),
+        TextKey::Os => Os::named(value),
+        TextKey::Panic => Panic::named(value),
+        TextKey::Vendor => Vendor::named(value),
     }
 }
 
-impl Predicate<'_> {
-    /// Returns a condition that asks this predicate alone. A value has no quotes inside.
-    pub(crate) fn spelled(&self) -> String {
-        match self {
-            Predicate::Target(target) => {
-                let (key, value) = target.parts();
-                format!("{key} = \"{value}\"")
+impl<'a> Predicate<'a> {
+    /// Returns the predicate that stands at `located` in `text`. Its text is copied if it is the
+    /// value of a target, and no named one.
+    #[inline(always)]
+    pub(super) fn of(located: &LocatedPredicate, text: &'a str) -> Self {
+        match located.asked {
+            Asked::Target(AskedTarget::Text(key)) => {
+                let value = located.value;
+                let value = match named(key, &text.as_bytes()[value.start..value.end]) {
+                    Some(known) => Cow::Borrowed(known.text),
+                    None => Cow::Owned(value.cut(text).to_string()),
+                };
+                Predicate::Target(TargetPredicate::of(key, value))
             }
-            Predicate::Test => String::from("test"),
-            Predicate::DebugAssertions => String::from("debug_assertions"),
-            Predicate::ProcMacro => String::from("proc_macro"),
-            Predicate::Feature(name) => format!("feature = \"{name}\""),
-            Predicate::TargetFeature(name) => format!("target_feature = \"{name}\""),
-            Predicate::Flag(key) => key.to_string(),
-            Predicate::KeyValue { key, val } => format!("{key} = \"{val}\""),
+            _ => Predicate::unnamed(located, text),
+        }
+    }
+
+    /// Returns what `ask` answers to the predicate that stands at `located` in `text`. A predicate
+    /// that asks for a named value is not made, since it is there.
+    #[inline(always)]
+    pub(super) fn ask<T>(
+        located: &LocatedPredicate,
+        text: &str,
+        mut ask: impl FnMut(&Predicate<'_>) -> T,
+    ) -> T {
+        let known = match located.asked {
+            Asked::Target(AskedTarget::Text(key)) => {
+                let value = located.value;
+                named(key, &text.as_bytes()[value.start..value.end])
+            }
+            _ => None,
+        };
+        let made;
+        ask(match known {
+            Some(known) => &known.predicate,
+            None => {
+                made = Predicate::unnamed(located, text);
+                &made
+            }
+        })
+    }
+
+    /// Returns the predicate that stands at `located` in `text`, and asks for no named value.
+    #[inline(always)]
+    fn unnamed(located: &LocatedPredicate, text: &'a str) -> Self {
+        let LocatedPredicate { asked, key, value } = *located;
+        match asked {
+            Asked::Target(asked) => Predicate::Target(match asked {
+                AskedTarget::Text(key) => {
+                    TargetPredicate::of(key, Cow::Owned(value.cut(text).to_string()))
+                }
+                AskedTarget::Endian(endian) => TargetPredicate::Endian(endian),
+                AskedTarget::HasAtomic(width) => TargetPredicate::HasAtomic(HasAtomic::of(width)),
+                AskedTarget::PointerWidth(bits) => TargetPredicate::PointerWidth(bits),
+            }),
+            Asked::Test => Predicate::Test,
+            Asked::DebugAssertions => Predicate::DebugAssertions,
+            Asked::ProcMacro => Predicate::ProcMacro,
+            Asked::Feature => Predicate::Feature(value.cut(text)),
+            Asked::TargetFeature => Predicate::TargetFeature(value.cut(text)),
+            Asked::Flag => Predicate::Flag(key.cut(text)),
+            Asked::KeyValue => Predicate::KeyValue {
+                key: key.cut(text),
+                val: value.cut(text),
+            },
         }
     }
 }

@@ -1,13 +1,16 @@
 //! The facts of the built-in targets.
 
-use super::{ALL_BUILTINS, Abi, Endian, Env, Os, TargetInfo, Vendor, builtins, place_of};
+use super::builtins::{OTHER_FACTS, RUSTC_FACTS, RUSTC_TARGETS, TARGETS};
+use super::{Abi, Endian, Env, Os, TargetInfo, Vendor, place_in};
 use crate::audit::Facts;
 
-/// Returns the facts of the built-in target with this triple, for an [`audit`](crate::audit()).
+/// Returns the facts of the target with this triple, for an [`audit`](crate::audit()): of one of
+/// the 320 targets of rustc 1.95.0, or of a built-in one.
 ///
-/// They are the lines that the compiler prints to Cargo, but for `proc_macro`, which Cargo ignores.
-/// For some targets [`Rustc`](super::Rustc) has one more fact, `target_feature="crt-static"`: the
-/// compiler does not print it to Cargo.
+/// Those of a target of rustc 1.95.0 are the lines that this compiler prints to Cargo, but for
+/// `proc_macro`, which Cargo ignores. For some targets [`Rustc`](super::Rustc) has one more fact,
+/// `target_feature="crt-static"`: the compiler does not print it to Cargo. Those of another built-in
+/// target are what its fields say: no target feature, and not `debug_assertions`.
 ///
 /// ```
 /// use cfgx::targets::builtin_facts;
@@ -21,9 +24,8 @@ use crate::audit::Facts;
 /// ```
 #[must_use]
 pub fn builtin_facts(triple: &str) -> Option<Facts> {
-    let place = place_of(triple)?;
-    let mut lines = lines_of(&ALL_BUILTINS[place]);
-    let (has_assertions, features) = builtins::OTHER_FACTS[place];
+    let (target, (has_assertions, features)) = described(triple)?;
+    let mut lines = lines_of(target);
     let features = features.split_whitespace();
     lines.extend(features.map(|feature| line("target_feature", feature)));
     if has_assertions {
@@ -31,6 +33,15 @@ pub fn builtin_facts(triple: &str) -> Option<Facts> {
     }
     lines.sort_unstable();
     Some(Facts::new(lines))
+}
+
+/// Returns the target with this triple, as rustc 1.95.0 describes it or else as it is built in, with
+/// whether `debug_assertions` is printed for it, and its target features.
+fn described(triple: &str) -> Option<(&'static TargetInfo, (bool, &'static str))> {
+    let find = |targets: &'static [TargetInfo], facts: &[(bool, &'static str)]| {
+        place_in(targets, triple).map(|place| (&targets[place], facts[place]))
+    };
+    find(RUSTC_TARGETS, RUSTC_FACTS).or_else(|| find(TARGETS, OTHER_FACTS))
 }
 
 /// Returns the line of a key and its value.

@@ -10,15 +10,16 @@ macro_rules! named_values {
                 pub const $name: $field = $field::new_const($text);
             )*
 
-            /// Returns the predicate that asks for the named value with this text.
-            pub(crate) fn predicate_of(
-                text: &[u8],
-            ) -> Option<&'static $crate::expr::Predicate<'static>> {
-                use $crate::expr::{Predicate, TargetPredicate};
+            /// Returns what is known of the named value with these bytes.
+            pub(crate) fn named(text: &[u8]) -> Option<&'static $crate::expr::Named> {
+                use $crate::expr::{Named, Predicate, TargetPredicate};
                 $(const $name: &[u8] = $text.as_bytes();)*
                 match text {
                     $($name => Some(const {
-                        &Predicate::Target(TargetPredicate::$field($field::$name))
+                        &Named {
+                            predicate: Predicate::Target(TargetPredicate::$field($field::$name)),
+                            text: $text,
+                        }
                     }),)*
                     _ => None,
                 }
@@ -56,17 +57,17 @@ macro_rules! item {
     };
 }
 
-/// Declares the built-in targets, in the order of their triples. `-` stands for a field or a list
-/// without a value. Behind the fields stand whether `debug_assertions` is printed, and the target
-/// features.
+/// Declares a list of targets, in the order of their triples, and one of what the compiler prints
+/// beside their fields. `-` stands for a field or a list without a value. Behind the fields stand
+/// whether `debug_assertions` is printed, and the target features.
 macro_rules! built_in {
-    ($(
+    ($targets:ident, $facts:ident: $(
         $triple:literal $os:tt $abi:tt $arch:ident $env:tt $vendor:tt $families:tt
         $pointer_width:literal $endian:ident $has_atomics:tt $panic:ident
         $has_assertions:literal $features:literal;
     )*) => {
         /// The targets.
-        pub(super) const TARGETS: &[TargetInfo] = &[$(TargetInfo {
+        pub(super) const $targets: &[TargetInfo] = &[$(TargetInfo {
             triple: Triple::new_const($triple),
             os: optional!(Os $os),
             abi: optional!(Abi $abi),
@@ -81,7 +82,7 @@ macro_rules! built_in {
         }),*];
 
         /// Whether the compiler prints `debug_assertions` for each target, and the target features.
-        pub(super) const OTHER_FACTS: &[(bool, &str)] = &[$(($has_assertions, $features)),*];
+        pub(super) const $facts: &[(bool, &str)] = &[$(($has_assertions, $features)),*];
     };
 }
 

@@ -2,9 +2,11 @@
 
 use super::{Abi, Arch, Endian, Env, Families, Family, HasAtomic, HasAtomics};
 use super::{Os, Panic, TargetInfo, Triple, Vendor};
-use crate::audit::{Facts, audit};
+use crate::engine::cfgx_parser::unaskable::is_unaskable;
+use crate::engine::rattle::alloc::Global;
 use crate::error::ParseError;
 use crate::expr::{Expression, Predicate, TargetPredicate};
+use crate::memory;
 use std::collections::BTreeSet;
 use std::error::Error;
 use std::fmt;
@@ -168,30 +170,23 @@ impl TargetInfo {
     /// # Ok::<(), cfgx::targets::RustcCfgError>(())
     /// ```
     pub fn from_rustc_cfg(triple: &str, lines: &str) -> Result<TargetInfo, RustcCfgError> {
-        let lines = || {
-            (1..)
-                .zip(lines.lines())
-                .filter(|(_, text)| !text.is_empty())
-        };
-        // A line before the first faulty fact is a condition, or one that no condition can ask,
-        // unless it begins with `?`.
-        let facts = Facts::new(lines().map(|(_, text)| text));
-        let no_conditions: [Expression; 0] = [];
-        let faulty = audit(no_conditions, [facts]).err();
-        let faulty = faulty.map(|error| error.number);
         let mut values = Values::default();
-        for (number, (line, text)) in lines().enumerate() {
+        let lines = (1..).zip(lines.lines());
+        for (line, text) in lines.filter(|(_, text)| !text.is_empty()) {
             match Expression::parse(text) {
                 Ok(condition) => take_each(&mut values, condition.predicates())
                     .map_err(|key| RustcCfgError::Twice { line, key })?,
-                Err(error) if faulty == Some(number) || text.starts_with('?') => {
-                    return Err(RustcCfgError::Faulty { line, error });
-                }
-                Err(_) => {}
+                Err(_) if is_passed_over(text) => {}
+                Err(error) => return Err(RustcCfgError::Faulty { line, error }),
             }
         }
         values.target(triple)
     }
+}
+
+/// Returns whether a line is one that no condition can ask.
+fn is_passed_over(text: &str) -> bool {
+    memory::granted(is_unaskable(Global, text), text.len())
 }
 
 /// Takes the value of each predicate on the target.

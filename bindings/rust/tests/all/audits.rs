@@ -1,7 +1,7 @@
 //! Audits.
 
-use super::engine;
 use super::lexing::counts_of;
+use super::model;
 use cfgx::error::Reason;
 use cfgx::{Audit, Expression, FactError, Facts, Otherwise, audit, audit_with};
 use std::ops::Range;
@@ -27,8 +27,8 @@ fn values_are_those_of_each_condition_on_each_target() {
     let values = audit(&conditions, &targets).unwrap();
     for (row, expression) in conditions.iter().enumerate() {
         for (column, facts) in lists.iter().enumerate() {
-            let answers = engine::answers(expression.original(), facts);
-            let expected = engine::value(expression.original(), &answers);
+            let answers = model::answers(expression.original(), facts);
+            let expected = model::value(expression.original(), &answers);
             assert_eq!(
                 values.value(row, column),
                 expected,

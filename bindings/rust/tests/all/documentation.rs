@@ -82,7 +82,7 @@ fn the_example_has_its_values() {
     // This satisfies all requirements
     assert!(value_on(x86_win, "cool_thing"));
 
-    // This lacks the feature `cool_thing`. rustc 1.95 does not have this target.
+    // This lacks the feature `cool_thing`. This target is not built in.
     let x86_pentium_win = windows("i586-pc-windows-msvc", Vendor::pc);
     assert!(!value_on(&x86_pentium_win, ""));
     assert!(value_on(&x86_pentium_win, "cool_thing"));

@@ -1,7 +1,7 @@
 //! 10,000 generated conditions.
 
-use super::engine;
 use super::logics::Term;
+use super::model;
 use super::spelling::spelled;
 use super::trees::{Numbers, Tree};
 use cfgx::{Decision, Expression, Facts, audit};
@@ -43,19 +43,19 @@ fn terms_are_joined_as_by_the_model() {
 }
 
 #[test]
-fn values_are_those_of_the_engine() {
-    for_each(|_, expression, numbers| {
-        let text = expression.original();
+fn values_are_those_of_the_model() {
+    for_each(|tree, expression, numbers| {
         let answers = answers_to(expression, numbers);
         let mut left = answers.iter();
         let value: Option<bool> = expression.eval(|_| *left.next().unwrap());
-        assert_eq!(value, engine::value(text, &answers), "{text} {answers:?}");
+        let expected = tree.value_over(&mut answers.iter().copied());
+        assert_eq!(value, expected, "{expression} {answers:?}");
 
         let answers: Vec<bool> = answers.iter().map(|one| *one == Some(true)).collect();
         let mut left = answers.iter();
         let value = expression.eval(|_| *left.next().unwrap());
-        let known: Vec<Option<bool>> = answers.into_iter().map(Some).collect();
-        assert_eq!(Some(value), engine::value(text, &known), "{text}");
+        let expected = tree.value_over(&mut answers.iter().copied().map(Some));
+        assert_eq!(Some(value), expected, "{expression} {answers:?}");
     });
 }
 
@@ -76,11 +76,12 @@ fn check_filling(expression: &Expression, answers: &[Option<bool>], filling: &[b
 #[test]
 fn fillings_show_what_depends_on_unknown_answers() {
     let unknown = Cell::new(0);
-    for_each(|_, expression, numbers| {
+    for_each(|tree, expression, numbers| {
         let answers = answers_to(expression, numbers);
         let mut left = answers.iter();
         let decision = expression.decide(|_| *left.next().unwrap());
-        match (decision, engine::value(expression.original(), &answers)) {
+        let value = tree.value_over(&mut answers.iter().copied());
+        match (decision, value) {
             (Decision::Known(value), Some(expected)) => assert_eq!(value, expected),
             (
                 Decision::Unknown {
@@ -90,7 +91,7 @@ fn fillings_show_what_depends_on_unknown_answers() {
             ) => {
                 check_filling(expression, &answers, &if_true, true);
                 check_filling(expression, &answers, &if_false, false);
-                let fillings = engine::fillings(expression.original(), &answers);
+                let fillings = [true, false].map(|value| tree.filling(&answers, value));
                 assert_eq!([if_true, if_false], fillings, "{expression}");
                 unknown.set(unknown.get() + 1);
             }
@@ -110,13 +111,13 @@ const FACTS: [&[&str]; 4] = [
 ];
 
 #[test]
-fn audits_are_those_of_the_engine() {
+fn audits_are_those_of_the_model() {
     let targets = FACTS.map(Facts::new);
-    for_each(|_, expression, _| {
+    for_each(|tree, expression, _| {
         let values = audit([expression], &targets).unwrap();
         let value_on = |facts: &&[&str]| {
-            let answers = engine::answers(expression.original(), facts);
-            engine::value(expression.original(), &answers)
+            let answers = model::answers(expression.original(), facts);
+            tree.value_over(&mut answers.into_iter())
         };
         let expected: Vec<Option<bool>> = FACTS.iter().map(value_on).collect();
         assert_eq!(values.row(0), expected, "{expression}");

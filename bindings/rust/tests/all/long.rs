@@ -1,19 +1,18 @@
 //! Deep and wide texts of a megabyte, and texts of every length up to some hundred bytes.
 
-use super::engine;
+use super::model;
 use cfgx::error::Reason;
 use cfgx::{Decision, Expression, Predicate};
 
 /// The least number of bytes of a long text.
 const LENGTH: usize = 1 << 20;
 
-/// Returns the value of a text whose predicates are all true, which the engine gives too.
+/// Returns the value of a text whose predicates are all true.
 fn value_of(text: &str) -> bool {
     assert!(text.len() >= LENGTH);
     let expression = Expression::parse(text).unwrap();
-    let count = expression.predicates().count();
     let value = expression.eval(|_| true);
-    assert_eq!(engine::value(text, &vec![Some(true); count]), Some(value));
+    assert_eq!(expression.decide(|_| Some(true)), Decision::Known(value));
     value
 }
 
@@ -91,11 +90,20 @@ fn long_faults() {
         (&error.span, &error.reason),
         (&(LENGTH..LENGTH + 1), &Reason::UnopenedParens)
     );
-    assert_eq!(Some(error.to_string()), engine::explain(&text));
+    let reason = "unopened parens";
+    assert_eq!(
+        error.to_string(),
+        model::printed(&text, LENGTH, "^", reason)
+    );
     let text = format!("cfg(not({}))", "a,".repeat(LENGTH / 2));
     let error = Expression::parse(&text).unwrap_err();
     assert_eq!(error.reason, Reason::InvalidNot(LENGTH / 2));
-    assert_eq!(Some(error.to_string()), engine::explain(&text));
+    let (inside, marks) = (&text[4..text.len() - 1], "^".repeat(LENGTH + 5));
+    let reason = format!("not() takes 1 predicate, found {}", LENGTH / 2);
+    assert_eq!(
+        error.to_string(),
+        model::printed(inside, 0, &marks, &reason)
+    );
 }
 
 #[test]

@@ -1,5 +1,5 @@
-//! Tests of the crate against recorded answers and against the calls of the engine. Those that
-//! build programs in folders, or run scripts, are for Unix.
+//! Tests of the crate against recorded answers and against models. Those that build programs in
+//! folders are for Unix.
 
 mod audits;
 mod child;
@@ -7,14 +7,11 @@ mod colliding;
 #[cfg(unix)]
 mod compiler;
 mod documentation;
-mod engine;
 mod generated;
 mod joining;
 mod leaks;
 mod lexing;
 mod lines;
-#[cfg(unix)]
-mod linked;
 mod logics;
 mod long;
 #[cfg(unix)]
@@ -22,13 +19,12 @@ mod manifests;
 mod matching;
 #[cfg(unix)]
 mod memory;
+mod model;
 mod named;
 #[cfg(unix)]
 mod packaged;
 #[cfg(unix)]
 mod patched;
-#[cfg(unix)]
-mod platforms;
 mod predicates;
 #[cfg(unix)]
 mod programs;
@@ -37,8 +33,6 @@ mod real;
 mod recorded;
 mod rows;
 mod rustc;
-#[cfg(unix)]
-mod script;
 mod spelling;
 #[cfg(unix)]
 mod surface;
@@ -46,5 +40,3 @@ mod tables;
 mod targets;
 mod threads;
 mod trees;
-#[cfg(unix)]
-mod unlinked;

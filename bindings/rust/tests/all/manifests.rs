@@ -25,7 +25,7 @@ pub fn blocks() -> Vec<String> {
 fn check(folder: &Path, manifest: &str, name: &str) {
     let call = format!("{name}::Expression::parse(\"cfg(a)\").unwrap()");
     let code = format!("fn main() {{ println!(\"{{}}\", {call}) }}");
-    let program = programs::built(folder, manifest, &code, None);
+    let program = programs::built(folder, manifest, &code);
     let output = Command::new(program).output().unwrap();
     assert_eq!(output.stdout, b"a\n", "{manifest}");
 }
@@ -40,7 +40,7 @@ fn each_manifest_of_the_page_builds() {
     check(&folder, old_name, "cfg_expr");
     // Without the feature `targets`, which the suite over Debian's packages tests, nothing more is
     // locked.
-    assert_eq!(programs::locked_in(&folder), ["cfgx", "mine"]);
+    assert_eq!(programs::locked_in(&folder), ["cfgx", "mine", "smallvec"]);
 }
 
 #[test]
@@ -50,7 +50,7 @@ fn each_example_of_the_page_runs() {
     assert!(!examples.is_empty());
     for example in examples {
         let code = format!("fn main() {{\n{example}}}\n");
-        let program = programs::built(&folder, &blocks()[0], &code, None);
+        let program = programs::built(&folder, &blocks()[0], &code);
         let output = Command::new(program).output().unwrap();
         assert!(output.status.success(), "{example}: {output:?}");
     }
@@ -78,5 +78,5 @@ fn the_documentation_has_the_differences_of_the_page() {
     let (table, _) = rest.split_once("\n\n").unwrap();
     let documented = fs::read_to_string(own.join("src/differences.txt")).unwrap();
     assert_eq!(first_cells(&documented), first_cells(table));
-    assert_eq!(first_cells(table).len(), 11);
+    assert_eq!(first_cells(table).len(), 7);
 }

@@ -32,12 +32,6 @@ fn run_within(kib: usize) -> Output {
         .unwrap()
 }
 
-#[cfg(not(target_env = "gnu"))]
-#[test]
-fn growths_are_not_refused_one_by_one() {
-    println!("skipped: the C library is not that of GNU, so no growth was refused by itself");
-}
-
 #[test]
 fn without_memory_the_process_ends() {
     let (mut ended, mut done) = (0, 0);

@@ -1,4 +1,5 @@
-//! The named values and lists, beside those that the documentation of cfg-expr 0.20.10 has.
+//! The named values and lists, beside those that the documentation of cfg-expr 0.20.10 has:
+//! `bindings/targets/cfg-expr/named.tsv` has what its rustdoc lists.
 
 use cfgx::expr::TargetPredicate;
 use cfgx::targets::{
@@ -6,6 +7,7 @@ use cfgx::targets::{
 };
 use cfgx::{Expression, Predicate};
 use std::borrow::Cow;
+use std::collections::BTreeMap;
 use std::fs;
 use std::path::Path;
 
@@ -31,6 +33,40 @@ fn texts_of_named_values() {
     for (name, printed, text) in named_values() {
         assert_eq!(printed, text, "{name}");
     }
+}
+
+/// The lists of cfg-expr 0.20.10. The tests below have their items.
+const LISTS: [(&str, &str); 7] = [
+    ("Families::unix", "unix"),
+    ("Families::unix_wasm", "unix wasm"),
+    ("Families::wasm", "wasm"),
+    ("Families::windows", "windows"),
+    (
+        "HasAtomics::atomic_8_16_32_64_128_ptr",
+        "8 16 32 64 128 ptr",
+    ),
+    ("HasAtomics::atomic_8_16_32_64_ptr", "8 16 32 64 ptr"),
+    ("HasAtomics::atomic_8_16_32_ptr", "8 16 32 ptr"),
+];
+
+/// So no name of cfg-expr is missing in these tests.
+#[test]
+fn the_named_values_are_all_that_cfg_expr_has() {
+    let table = read("bindings/targets/cfg-expr/named.tsv");
+    let rows = table.lines().skip(2).map(|row| {
+        let [field, name, text] = row.split('\t').collect::<Vec<_>>()[..] else {
+            panic!("{row}");
+        };
+        (format!("{field}::{name}"), text.to_string())
+    });
+    let listed: BTreeMap<String, String> = rows.collect();
+    let values = named_values()
+        .into_iter()
+        .map(|(name, _, text)| (name, text));
+    let named = values.chain(LISTS);
+    let named = named.map(|(name, text)| (name.to_string(), text.to_string()));
+    assert_eq!(named.collect::<BTreeMap<_, _>>(), listed);
+    assert_eq!(listed.len(), 147);
 }
 
 #[test]
@@ -110,9 +146,9 @@ fn values_of_the_engine(file: &str) -> Vec<String> {
         .collect()
 }
 
-/// Returns the values in the column of a key in the table of targets.
-fn values_of_the_table(key: &str) -> Vec<String> {
-    let table = read("bindings/targets/targets.tsv");
+/// Returns the values in the column of a key in a table of targets.
+fn values_of_the_table(table: &str, key: &str) -> Vec<String> {
+    let table = read(table);
     let mut rows = table.lines().skip(1).map(|line| line.split('\t'));
     let column = rows.next().unwrap().position(|head| head == key).unwrap();
     let cells = rows.flat_map(|mut cells| cells.nth(column).unwrap().split(' '));
@@ -132,11 +168,18 @@ macro_rules! asked_field {
     }};
 }
 
-/// Panics unless each value of a file of `crates/cfgx_fields`, and each one that a key has in the
+/// The targets of cfg-expr 0.20.10, and those of rustc 1.95.
+const TABLES: [&str; 2] = [
+    "bindings/targets/cfg-expr/targets.tsv",
+    "bindings/targets/targets.tsv",
+];
+
+/// Panics unless each value of a file of `crates/cfgx_fields`, and each one that a key has in a
 /// table of targets, is a named value. A condition that asks for it copies no text then.
 macro_rules! check_named {
     ($field:ident, $file:literal, $key:literal) => {
-        for values in [values_of_the_engine($file), values_of_the_table($key)] {
+        let [rows, of_rustc] = TABLES.map(|table| values_of_the_table(table, $key));
+        for values in [values_of_the_engine($file), rows, of_rustc] {
             assert!(values.len() > 1, "{} {}", $file, $key);
             for text in values {
                 let field = asked_field!($field, &format!("{} = \"{text}\"", $key));

@@ -46,7 +46,7 @@ pub mod targets {
 
 /// What the program prints over the stand-in, and over this crate.
 const OVER_STAND_IN: &str = "0 stand-in\n";
-const OVER_CFGX: &str = "2 1.95.0\n";
+const OVER_CFGX: &str = "2 1.99.0\n";
 
 /// Puts a package into the registry.
 fn publish(registry: &Path, name: &str, version: &str, rest: &str, code: &str) {
@@ -56,8 +56,21 @@ fn publish(registry: &Path, name: &str, version: &str, rest: &str, code: &str) {
     let manifest = format!("{head}edition = \"2021\"\n\n{rest}");
     fs::write(folder.join("Cargo.toml"), manifest).unwrap();
     fs::write(folder.join("src/lib.rs"), code).unwrap();
+    write_sums(&folder);
+}
+
+/// Writes the file by which Cargo takes a folder for a package of a registry.
+fn write_sums(folder: &Path) {
     let sums = format!("{{\"files\":{{}},\"package\":\"{}\"}}", "0".repeat(64));
     fs::write(folder.join(".cargo-checksum.json"), sums).unwrap();
+}
+
+/// Puts the one dependency of the crate into the registry.
+fn publish_smallvec(registry: &Path) {
+    let source = programs::folder_of_smallvec();
+    let folder = registry.join(source.file_name().unwrap());
+    programs::copy(&source, &folder);
+    write_sums(&folder);
 }
 
 /// Makes the folder of the program, which takes its packages from a registry with these versions of
@@ -71,6 +84,7 @@ pub fn folder_with(room: &Path, versions: &[&str]) -> PathBuf {
         let features = "[features]\ndefault = []\ntargets = []\n";
         publish(&registry, "cfg-expr", version, features, STAND_IN);
     }
+    publish_smallvec(&registry);
     let folder = programs::folder_in(room);
     let _ = fs::remove_file(folder.join("Cargo.lock"));
     fs::create_dir_all(folder.join(".cargo")).unwrap();
@@ -123,7 +137,7 @@ fn check_locked(room: &Path, patched: &str) {
     check_patched(&folder);
     // Nothing more than without the optional dependency.
     let locked = programs::locked_in(&folder);
-    assert_eq!(locked, ["asking", "cfg-expr", "cfgx", "mine"]);
+    assert_eq!(locked, ["asking", "cfg-expr", "cfgx", "mine", "smallvec"]);
 }
 
 // One test, since all builds share a folder, where the crate is built once.
@@ -164,6 +178,6 @@ fn main() {
 fn the_package_has_all_that_the_crate_has() {
     let folder = programs::folder_in(&programs::room("beyond"));
     let needs = "[dependencies]\ncfg-expr = { path = \"../cfgx/bindings/rust/cfg-expr\" }\n";
-    let program = programs::built(&folder, needs, BEYOND, None);
+    let program = programs::built(&folder, needs, BEYOND);
     assert!(Command::new(program).status().unwrap().success());
 }

@@ -31,12 +31,10 @@ pub fn folder_in(room: &Path) -> PathBuf {
     folder
 }
 
-/// Builds a program with these dependencies, and returns its path. `library` is the folder of the
-/// library, if it is not the one that is linked here.
-pub fn built(folder: &Path, dependencies: &str, code: &str, library: Option<&Path>) -> PathBuf {
+/// Builds a program with these dependencies, and returns its path.
+pub fn built(folder: &Path, dependencies: &str, code: &str) -> PathBuf {
     write(folder, dependencies, code);
-    let mut command = cargo(folder, &["build", "--quiet"]);
-    succeed(command.envs(library.map(|library| ("CFGX_LIB_DIR", library))));
+    succeed(&mut cargo(folder, &["build", "--quiet"]));
     path_in(folder)
 }
 
@@ -63,13 +61,35 @@ pub fn cargo(folder: &Path, words: &[&str]) -> Command {
     command
 }
 
-/// Returns the command that runs Cargo on a package of this repository, whose lock file has the
-/// optional dependency too. An empty stand-in takes its place.
-pub fn cargo_on_own(folder: &Path, words: &[&str]) -> Command {
-    let config = Path::new(env!("CARGO_MANIFEST_DIR")).join("tests/offline/config.toml");
-    let mut command = cargo(folder, words);
-    command.arg("--config").arg(config);
-    command
+/// Returns the folder of the one dependency, from which this program was built.
+pub fn folder_of_smallvec() -> PathBuf {
+    let own = Path::new(env!("CARGO_MANIFEST_DIR"));
+    let output = cargo(own, &["metadata", "--format-version", "1"])
+        .output()
+        .unwrap();
+    let said = String::from_utf8(output.stdout).unwrap();
+    let mut paths = said.split("\"manifest_path\":\"").skip(1);
+    let path = paths.find_map(|rest| {
+        let path = Path::new(rest.split('"').next().unwrap());
+        let folder = path.parent().unwrap();
+        let name = folder.file_name().unwrap().to_str().unwrap();
+        name.starts_with("smallvec-").then(|| folder.to_path_buf())
+    });
+    path.unwrap()
+}
+
+/// Copies a folder.
+pub fn copy(from: &Path, to: &Path) {
+    fs::create_dir_all(to).unwrap();
+    for entry in fs::read_dir(from).unwrap() {
+        let path = entry.unwrap().path();
+        let place = to.join(path.file_name().unwrap());
+        if path.is_dir() {
+            copy(&path, &place);
+        } else {
+            fs::copy(&path, place).unwrap();
+        }
+    }
 }
 
 /// Returns the names of the packages that the lock file in `folder` has, in order.

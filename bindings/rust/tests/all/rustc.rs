@@ -1,12 +1,12 @@
-//! Every target of the `rustc` on the path: what it meets, and that it is built in as this compiler
-//! describes it.
+//! Every target of the `rustc` on the path: what it meets, that its facts are built in, and that it
+//! is built in as this compiler describes it.
 
-use super::{child, engine};
+use super::{child, model};
 use cfgx::expr::Predicate;
-use cfgx::targets::{
-    ALL_BUILTINS, Rustc, builtin_facts, get_builtin_target_by_triple, rustc_version,
-};
+use cfgx::targets::{ALL_BUILTINS, Rustc, builtin_facts, get_builtin_target_by_triple};
 use cfgx::{Expression, Facts, audit};
+use std::fs;
+use std::path::Path;
 use std::process::Command;
 use std::sync::Mutex;
 use std::thread;
@@ -34,6 +34,17 @@ fn version() -> String {
     release.unwrap().to_string()
 }
 
+/// Returns the version of the compiler whose facts are built in, and the triples of its targets.
+fn version_and_triples() -> (String, Vec<String>) {
+    let path = Path::new(env!("CARGO_MANIFEST_DIR")).join("../targets/targets.tsv");
+    let table = fs::read_to_string(path).unwrap();
+    let rest = table.strip_prefix("# Targets of rustc ").unwrap();
+    let (version, _) = rest.split_once(',').unwrap();
+    let cells = table.lines().skip(2).map(|row| row.split('\t').next());
+    let triples = cells.map(|cell| cell.unwrap().to_string());
+    (version.to_string(), triples.collect())
+}
+
 /// Returns the lines of facts.
 fn lines_of(facts: &Facts) -> Vec<&str> {
     (0..facts.len())
@@ -41,7 +52,7 @@ fn lines_of(facts: &Facts) -> Vec<&str> {
         .collect()
 }
 
-/// Panics unless what each target meets is what the engine answers by the facts of the target.
+/// Panics unless what each target meets is what its facts answer by the model.
 fn check(rustc: &Rustc, triples: &[String]) {
     let expression = Expression::parse(CONDITION).unwrap();
     let values = audit(std::slice::from_ref(&expression), rustc.facts()).unwrap();
@@ -54,14 +65,14 @@ fn check(rustc: &Rustc, triples: &[String]) {
                 _ => None,
             })
             .collect();
-        assert_eq!(met, engine::answers(CONDITION, &lines), "{}", target.triple);
-        assert_eq!(values.value(0, place), engine::value(CONDITION, &met));
+        assert_eq!(met, model::answers(CONDITION, &lines), "{}", target.triple);
+        assert_eq!(values.value(0, place), model::value(CONDITION, &met));
         assert_eq!(rustc.target(&triples[place]), Some(target));
     }
 }
 
-/// Panics unless the facts of the built-in targets are those of `rustc`, but for `crt-static`,
-/// which it does not print to Cargo.
+/// Panics unless the facts that are built in for each target are those of `rustc`, but for
+/// `crt-static`, which it does not print to Cargo.
 fn check_facts(rustc: &Rustc) {
     for (target, printed) in rustc.targets().iter().zip(rustc.facts()) {
         let built_in = builtin_facts(target.triple.as_str()).unwrap();
@@ -81,26 +92,26 @@ fn compared(rustc: &Rustc) -> Vec<(String, bool)> {
     shared.collect()
 }
 
-/// Panics unless the built-in targets are those of the compiler that was asked. Those of another
-/// version may differ somewhat, which is told.
+/// Panics unless the compiler that was asked describes the built-in targets as they are, and has
+/// those whose facts are built in. Another version may differ somewhat, which is told.
 fn check_built_in(compared: &[(String, bool)], triples: &[String]) {
     let differing: Vec<&str> = compared
         .iter()
         .filter_map(|(triple, is_same)| (!is_same).then_some(triple.as_str()))
         .collect();
-    let (version, own) = (version(), rustc_version());
-    if version == own {
-        let built_in: Vec<&str> = ALL_BUILTINS.iter().map(|one| one.triple.as_str()).collect();
-        assert_eq!(built_in, triples);
-        assert_eq!(differing, [""; 0]);
-        return;
-    }
+    let (version, (own, own_triples)) = (version(), version_and_triples());
     let (own_count, count, shared) = (ALL_BUILTINS.len(), triples.len(), compared.len());
-    println!(
-        "skipped: the built-in targets are those of rustc {own}, and here is {version}, so only \
-         {shared} of {own_count} were compared with its {count}; {} differ: {differing:?}",
-        differing.len()
-    );
+    if version == own {
+        assert_eq!(own_triples, triples);
+        assert_eq!(differing, [""; 0]);
+    } else {
+        println!(
+            "skipped: the built-in facts are those of rustc {own}, and here is {version}, so they \
+             were not compared; of {own_count} built-in targets, {shared} were compared with its \
+             {count}; {} differ: {differing:?}",
+            differing.len()
+        );
+    }
     assert!(shared * 10 > own_count * 9, "{shared} of {own_count}");
     assert!(differing.len() * 10 < shared, "{differing:?}");
 }
@@ -115,7 +126,7 @@ fn every_target_of_the_compiler() {
     triples.sort_unstable();
     assert!(triples.iter().any(|one| one == "x86_64-unknown-linux-gnu"));
     let count = thread::available_parallelism().map_or(1, usize::from);
-    let is_own = version() == rustc_version();
+    let is_own = version() == version_and_triples().0;
     let all = Mutex::new(Vec::new());
     let all_compared = &all;
     thread::scope(|scope| {

@@ -1,12 +1,12 @@
 //! The built-in targets, and what targets meet.
 
-use super::engine;
+use super::model;
 use super::rows::table;
 use cfgx::error::Reason;
 use cfgx::expr::{Predicate, TargetPredicate};
 use cfgx::targets::{
     ALL_BUILTINS, Abi, Endian, Env, Family, HasAtomic, Os, TargetInfo, Vendor, builtin_facts,
-    get_builtin_target_by_triple,
+    get_builtin_target_by_triple, rustc_version,
 };
 use cfgx::{Expression, Facts, audit};
 use std::collections::BTreeSet;
@@ -28,18 +28,22 @@ fn value_on(expression: &Expression, target: &TargetInfo) -> Option<bool> {
     })
 }
 
-/// Returns the cells of the table that the built-in targets are made from, with its heads first. A
-/// head is a key, but for that of the triples.
-fn cells() -> Vec<Vec<String>> {
-    let path = Path::new(env!("CARGO_MANIFEST_DIR")).join("../targets/targets.tsv");
-    let table = fs::read_to_string(path).unwrap();
+/// The table of what `cfg-expr` 0.20.10 has built in, and that of what rustc 1.95 prints.
+const TABLES: [&str; 2] = ["cfg-expr/targets.tsv", "targets.tsv"];
+
+/// Returns the cells of a table of targets, with its heads first. A head is a key, but for that of
+/// the triples.
+fn cells(table: &str) -> Vec<Vec<String>> {
+    let path = Path::new(env!("CARGO_MANIFEST_DIR")).join("../targets");
+    let table = fs::read_to_string(path.join(table)).unwrap();
     let lines = table.lines().skip(1);
     lines
         .map(|line| line.split('\t').map(str::to_string).collect())
         .collect()
 }
 
-/// Conditions on each key of a target, with each value that a built-in target has, and with others.
+/// Conditions on each key of a target, with each value that a target of a table has, and with
+/// others.
 fn conditions() -> Vec<String> {
     let others = [
         "target_has_atomic=256",
@@ -48,11 +52,12 @@ fn conditions() -> Vec<String> {
         "feature=x",
     ];
     let mut asked: BTreeSet<String> = others.map(str::to_string).into();
-    let cells = cells();
-    for (column, key) in cells[0].iter().enumerate().skip(1) {
-        let values = cells[1..].iter().flat_map(|row| row[column].split(' '));
-        let all = values.chain(["", "none", "unknown"]);
-        asked.extend(all.map(|value| format!("{key}={value}")));
+    for cells in TABLES.map(cells) {
+        for (column, key) in cells[0].iter().enumerate().skip(1) {
+            let values = cells[1..].iter().flat_map(|row| row[column].split(' '));
+            let all = values.chain(["", "none", "unknown"]);
+            asked.extend(all.map(|value| format!("{key}={value}")));
+        }
     }
     let texts = asked.iter().map(|one| one.replacen('=', "=\"", 1) + "\"");
     let texts = texts.chain(["unix", "windows"].map(str::to_string));
@@ -63,24 +68,20 @@ fn conditions() -> Vec<String> {
     conditions
 }
 
-/// A target meets one value at most of most keys, so its fields are those of the engine's row.
+/// A target meets one value at most of most keys, so its fields are those that its facts name.
 #[test]
-fn the_five_rows_meet_what_the_program_says() {
+fn the_five_rows_meet_what_their_facts_answer_by_the_model() {
     let conditions = conditions();
     assert_eq!(targets_of_the_engine().len(), 5);
     for target in targets_of_the_engine() {
+        let facts = builtin_facts(target.triple.as_str()).unwrap();
+        let facts: Vec<&str> = facts.iter().collect();
         for text in &conditions {
             let expression = Expression::parse(text).unwrap();
-            let value = match value_on(&expression, target) {
-                Some(value) => format!("{value}\n"),
-                None => String::from("unknown\n"),
-            };
-            let triple = target.triple.as_str();
-            assert_eq!(
-                engine::run(&["target", triple, text]),
-                (0, value),
-                "{triple} {text}"
-            );
+            if let Some(value) = value_on(&expression, target) {
+                let answers = model::answers(text, &facts);
+                assert_eq!(answers, [Some(value)], "{} {text}", target.triple);
+            }
         }
     }
 }
@@ -158,16 +159,23 @@ fn first_cells(target: &TargetInfo) -> [String; 11] {
     ]
 }
 
+/// `tests/debian/run` compares the table with `cfg-expr`, and then each row and each named value.
 #[test]
-fn the_rows_of_the_table_are_built_in() {
-    let cells = cells();
+fn the_rows_of_cfg_expr_are_built_in() {
+    let [cells, _] = TABLES.map(cells);
     let heads = "triple target_os target_abi target_arch target_env target_vendor target_family \
-        target_pointer_width target_endian target_has_atomic panic debug_assertions target_feature";
+        target_pointer_width target_endian target_has_atomic panic";
     assert_eq!(cells[0].join(" "), heads);
-    assert_eq!(cells.len(), ALL_BUILTINS.len() + 1);
+    assert_eq!((cells.len(), ALL_BUILTINS.len()), (332, 331));
     for (target, row) in ALL_BUILTINS.iter().zip(&cells[1..]) {
-        assert_eq!(first_cells(target), row[..11]);
+        assert_eq!(first_cells(target), row[..]);
     }
+}
+
+/// The documentation of `cfg-expr` 0.20.10 has this version, which is no release.
+#[test]
+fn the_version_is_that_of_cfg_expr() {
+    assert_eq!(rustc_version(), "1.99.0");
 }
 
 #[test]
@@ -213,8 +221,9 @@ fn values_on_targets_that_programs_name() {
     }
 }
 
-/// Facts of targets, as rustc 1.95 prints them to Cargo.
-const FACTS: [(&str, &str); 2] = [
+/// Facts of targets: as rustc 1.95 prints them to Cargo, and of one that it does not know, what the
+/// row of `cfg-expr` says.
+const FACTS: [(&str, &str); 3] = [
     (
         "msp430-none-elf",
         r#"debug_assertions panic="abort" target_abi="" target_arch="msp430" target_endian="little"
@@ -228,6 +237,11 @@ const FACTS: [(&str, &str); 2] = [
         target_has_atomic="8" target_has_atomic="ptr" target_os="linux" target_pointer_width="64"
         target_vendor="unknown" unix"#,
     ),
+    (
+        "riscv32imfc-unknown-none-elf",
+        r#"panic="abort" target_abi="" target_arch="riscv32" target_endian="little" target_env=""
+        target_os="none" target_pointer_width="32" target_vendor="unknown""#,
+    ),
 ];
 
 #[test]
@@ -240,6 +254,53 @@ fn facts_of_built_in_targets() {
     }
     assert_eq!(builtin_facts("x86_64-linux-musl"), None);
     assert_eq!(builtin_facts(""), None);
+}
+
+/// Returns what rustc prints of the cell of a key.
+fn printed_of(key: &str, cell: &str) -> Vec<String> {
+    let line = |value: &str| format!("{key}=\"{value}\"");
+    match (key, cell) {
+        ("debug_assertions", "yes") => vec![key.to_string()],
+        ("target_os", "-") => vec![line("none")],
+        ("target_abi" | "target_env", "-") => vec![line("")],
+        (_, "-") => Vec::new(),
+        ("target_family", families) => {
+            let flags = families.split(' ').filter(|one| *one != "wasm");
+            let lines = families.split(' ').map(line);
+            lines.chain(flags.map(str::to_string)).collect()
+        }
+        (_, values) => values.split(' ').map(line).collect(),
+    }
+}
+
+/// Returns the triples of a table with the facts that the rows have.
+fn facts_in(table: &str) -> Vec<(String, Facts)> {
+    let cells = cells(table);
+    let rows = cells[1..].iter().map(|row| {
+        let keys = cells[0].iter().zip(row).skip(1);
+        let mut lines: Vec<String> = keys.flat_map(|(key, cell)| printed_of(key, cell)).collect();
+        lines.sort_unstable();
+        (row[0].clone(), Facts::new(lines))
+    });
+    rows.collect()
+}
+
+#[test]
+fn facts_are_those_of_the_compiler_or_else_of_the_row() {
+    let [rows, of_rustc] = TABLES.map(facts_in);
+    assert_eq!(of_rustc.len(), 320);
+    for (triple, facts) in &of_rustc {
+        assert_eq!(builtin_facts(triple).as_ref(), Some(facts), "{triple}");
+    }
+    let is_of_rustc = |triple| of_rustc.iter().any(|(other, _)| other == triple);
+    let others: Vec<_> = rows
+        .iter()
+        .filter(|(triple, _)| !is_of_rustc(triple))
+        .collect();
+    assert_eq!(others.len(), 14);
+    for (triple, facts) in others {
+        assert_eq!(builtin_facts(triple).as_ref(), Some(facts), "{triple}");
+    }
 }
 
 /// The facts and the fields of a target say the same of each predicate that is on the target.
@@ -312,13 +373,15 @@ fn triples_on_the_page(start: &str) -> Vec<String> {
 
 #[test]
 fn the_page_names_the_targets_that_differ() {
-    let is_here = |triple: &String| get_builtin_target_by_triple(triple).is_some();
-    let missing = triples_on_the_page("These 14 targets");
-    assert_eq!(missing.len(), 14);
-    assert!(!missing.iter().any(is_here), "{missing:?}");
-    let others = triples_on_the_page("lacks these three");
-    assert_eq!(others.len(), 3);
-    assert!(others.iter().all(is_here), "{others:?}");
+    let [built_in, of_rustc] = TABLES.map(|table| {
+        let rows = cells(table).into_iter().skip(1);
+        rows.map(|row| row[0].clone()).collect::<BTreeSet<_>>()
+    });
+    let named = ["These 14 built-in targets", "these three are not built in"]
+        .map(|start| BTreeSet::from_iter(triples_on_the_page(start)));
+    let differing = [&built_in - &of_rustc, &of_rustc - &built_in];
+    assert_eq!(named, differing);
+    assert_eq!(differing.map(|triples| triples.len()), [14, 3]);
 }
 
 /// Texts that name no width of atomics in `cfg-expr` either.

@@ -1,6 +1,5 @@
 //! Expressions in several threads.
 
-use super::engine;
 use super::trees::{Numbers, Tree};
 use cfgx::error::{HasAtomicParseError, Reason};
 use cfgx::expr::lexer::{Lexer, LexerToken, Token};
@@ -52,8 +51,8 @@ fn check(seed: u64) {
         let tree = Tree::generate(&mut numbers, 5);
         let text = tree.text(&mut numbers);
         let expression = Expression::parse(&text).unwrap();
-        let unknown = vec![None; expression.predicates().count()];
-        assert_eq!(expression.eval(|_| None), engine::value(&text, &unknown));
+        let value = tree.value_over(&mut std::iter::repeat(None));
+        assert_eq!(expression.eval(|_| None), value);
     }
 }
 

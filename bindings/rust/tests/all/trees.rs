@@ -126,6 +126,55 @@ impl Tree {
     }
 }
 
+impl Tree {
+    /// Returns the value over answers that may be unknown, which are taken in the order in which
+    /// they are asked.
+    pub fn value_over(&self, answers: &mut impl Iterator<Item = Option<bool>>) -> Option<bool> {
+        let (leaves, functions): (Vec<&Tree>, Vec<&Tree>) =
+            self.members_of().iter().partition(|tree| tree.is_leaf());
+        let trees = functions.into_iter().chain(leaves);
+        let members: Vec<Option<bool>> = trees.map(|tree| tree.value_over(answers)).collect();
+        // The value of one member decides, or else one that is not known leaves the value open.
+        let joined = |decisive| match () {
+            () if members.contains(&Some(decisive)) => Some(decisive),
+            () if members.contains(&None) => None,
+            () => Some(!decisive),
+        };
+        match self {
+            Tree::Literal(truth) => Some(*truth),
+            Tree::Ask(_) => answers.next().unwrap(),
+            Tree::Not(_) => members[0].map(|value| !value),
+            Tree::All(_) => joined(false),
+            Tree::Any(_) => joined(true),
+        }
+    }
+
+    /// Pushes for each predicate, in the order in which they are asked, whether it stands below an
+    /// even number of `not`, if this tree does so.
+    fn push_signs(&self, is_even: bool, signs: &mut Vec<bool>) {
+        if let Tree::Ask(_) = self {
+            signs.push(is_even);
+        }
+        let is_even = is_even != matches!(self, Tree::Not(_));
+        let (leaves, functions): (Vec<&Tree>, Vec<&Tree>) =
+            self.members_of().iter().partition(|tree| tree.is_leaf());
+        for tree in functions.into_iter().chain(leaves) {
+            tree.push_signs(is_even, signs);
+        }
+    }
+
+    /// Returns the filling of answers that leads to this value, if any does: an unknown answer
+    /// becomes the value below an even number of `not`, and the opposite below an odd one.
+    pub fn filling(&self, answers: &[Option<bool>], value: bool) -> Vec<bool> {
+        let mut signs = Vec::new();
+        self.push_signs(true, &mut signs);
+        let filled = answers.iter().zip(signs);
+        filled
+            .map(|(answer, is_even)| answer.unwrap_or(value == is_even))
+            .collect()
+    }
+}
+
 /// Returns the texts of the members, with commas between them.
 fn texts(members: &[Tree], numbers: &mut Numbers) -> String {
     let texts: Vec<String> = members.iter().map(|tree| tree.text(numbers)).collect();

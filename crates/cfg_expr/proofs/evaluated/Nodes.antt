@@ -10,7 +10,7 @@ use Rattle.cfgx_grammar.proofs.Answering.{only_tree}
 shapes-shown : (text : List ℕ) (nodes : List ExprNode)
     → map shape nodes ≡ map shape_of (map (node_at text) nodes)
 shapes-shown text [] = refl
-shapes-shown text (node.Fn func ∷ nodes) = rw (shapes-shown text nodes) refl
+shapes-shown text (node.Fn func len ∷ nodes) = rw (shapes-shown text nodes) refl
 shapes-shown text (first ∷ nodes) = rw (shapes-shown text nodes) refl
 
 -- they are those of the tree, but for what their predicates say

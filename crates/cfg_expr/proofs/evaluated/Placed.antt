@@ -58,7 +58,7 @@ put-right blank all slots (p ∷ ps) (x ∷ xs) found many right =
 
 module _ {X Y : Type 0} (f g : Node X → Y) (blank : Y)
     (literals : (truth : Bool) → g (Node.literal truth) ≡ f (Node.literal truth))
-    (functions : (func : Func) → g (Node.function func) ≡ f (Node.function func))
+    (functions : (func : Func) (len : ℕ) → g (Node.function func len) ≡ f (Node.function func len))
   where
     -- two maps of the nodes agree at what is none of the places, if they do at all but leaves
     mutual
@@ -69,12 +69,12 @@ module _ {X Y : Type 0} (f g : Node X → Y) (blank : Y)
       covered (Tree.leaf x) first place (suc offset) is misses = refl
       covered (Tree.literal truth) first place zero is misses = literals truth
       covered (Tree.literal truth) first place (suc offset) is misses = refl
-      covered (Tree.list function trees) first place zero is misses = functions _
+      covered (Tree.list function trees) first place zero is misses = functions _ _
       covered (Tree.list function trees) first place (suc offset) is misses =
           let these = places_by is_function (first + 1) trees in
           each-covered trees (first + 1) place offset (omega (arith, is))
           (all_of_first _ these _ misses) (all_of_second _ these _ misses)
-      covered (Tree.not tree) first place zero is misses = functions _
+      covered (Tree.not tree) first place zero is misses = functions _ _
       covered (Tree.not tree) first place (suc offset) is misses =
           covered tree (first + 1) place offset (omega (arith, is)) misses
 
@@ -130,7 +130,7 @@ holds-placed {T = T} otherwise tree answers nodes shapes many =
       shapes = shapes ∙ shapes-shape tree given same;
       answers = rw (count, places-shape tree given same, blank)
           (ap (with_answers _ (places 0 given)) (sym (asked-answered otherwise tree answers many))
-          ∙ placed slot_of (λ _. slot.Empty) slot.Empty (λ truth. refl) (λ func. refl) given);
+          ∙ placed slot_of (λ _. slot.Empty) slot.Empty (λ truth. refl) (λ func len. refl) given);
     }
 
 -- each place is that of a node

@@ -18,7 +18,7 @@ use Rattle.cfg_expr.proofs.evaluated.Read.{item_of, items-value}
 abbrev pub node_step : Node ℕ → Step
 node_step (Node.leaf number) = Ask number
 node_step (Node.literal truth) = Literal truth
-node_step (Node.function func) = Function func
+node_step (Node.function func len) = Function func
 
 mutual
   pub steps-nodes : (tree : Tree ℕ) → map node_step (prefix tree) ≡ steps tree

@@ -17,7 +17,7 @@ use Rattle.cfgx_parser.specs.declared.nodes.ExprNode.{ExprNode}
 use Rattle.cfgx_parser.proofs.Places.{length-places}
 use Rattle.cfgx_parser.proofs.Shapes.{length-shape, places-shape, shapes-shape}
 use Rattle.cfg_expr.specs.Fold.{Left, Operations, answered, answered_each, first_or}
-use Rattle.cfg_expr.specs.Fold.{left_to, tree_fold, tree_map, trees_map}
+use Rattle.cfg_expr.specs.Fold.{left_to, tree_fold, tree_map, tree_value, trees_map}
 use Rattle.cfg_expr.specs.Steps.{AreCounted, HasValue, answer_at, is_ask, numbered, steps}
 use Rattle.cfg_expr.specs.Steps.{steps_each, steps_of}
 use Rattle.cfg_expr.proofs.Dealing.{asked-answered}
@@ -81,23 +81,34 @@ length-steps tree = sym (ap length (steps-nodes (numbered tree)))
     ∙ length-map (prefix (numbered tree)) node_step
     ∙ sym (length-shape tree (numbered tree) (answered-shape (length (asked tree)) tree _))
 
+module _ {X T : Type 0} (logic : Operations T) (tree : Tree X) (answers : List T)
+    (many : length answers ≡ length (asked tree)) where
+  -- each number is that of an answer
+  pub numbers-inside : AllByRecursion (λ number. number < length answers) (asked (numbered tree))
+  numbers-inside = rw (asked-numbered tree)
+      (numbers-below 0 (length (asked tree)) (length answers) (omega (arith, many)))
+
+  -- the tree with the answers in place of their numbers
+  pub given-numbered : tree_map (answer_at logic answers) (numbered tree)
+      ≡ answered logic.top tree answers
+  given-numbered =
+      let count = length (asked tree) in
+      let get = answer_at logic answers in
+      let all : map get (range_with_len 0 count) ≡ answers =
+      sym (fill_by_all get answers count logic.top many (λ k below. refl)) in
+      let past : get count ≡ logic.top = get_or_past answers count logic.top (omega (arith, many)) in
+      rw (tree_map-answered get count tree (range_with_len 0 count), all, past) refl
+
 -- the steps of a tree have its value
 pub HasValue-steps : {X T : Type 0} (logic : Operations T) (tree : Tree X) (answers : List T)
     → length answers ≡ length (asked tree)
     → HasValue logic (steps_of tree) answers (tree_fold logic tree answers)
-HasValue-steps logic tree answers many =
-    let count = length (asked tree) in
-    let get = answer_at logic answers in
-    let all : map get (range_with_len 0 count) ≡ answers =
-    sym (fill_by_all get answers count logic.top many (λ k below. refl)) in
-    let past : get count ≡ logic.top = get_or_past answers count logic.top (omega (arith, many)) in
-    record {
-      tree = numbered tree;
-      are = refl;
-      inside = rw (asked-numbered tree)
-          (numbers-below 0 count (length answers) (omega (arith, many)));
-      value_is = rw (tree_map-answered get count tree (range_with_len 0 count), all, past) refl;
-    }
+HasValue-steps logic tree answers many = record {
+  tree = numbered tree;
+  are = refl;
+  inside = numbers-inside logic tree answers many;
+  value_is = sym (ap (tree_value logic) (given-numbered logic tree answers many));
+}
 
 -- A tree has as many steps that ask as it asks predicates.
 
@@ -170,5 +181,5 @@ steps-written {T = T} form nodes {ps} kept found =
     ∙ map-map (λ s. form (shape_step s)) shape_of (prefix numbers) in
     rw (written, asks, places_are)
     (placed (λ node. form (node_step node)) open_step (form (Literal true)) (λ truth. refl)
-    (λ func. refl) numbers)
+    (λ func len. refl) numbers)
     ∙ sym (map-map form node_step (prefix numbers)) ∙ ap (map form) (steps-nodes numbers)

@@ -95,7 +95,7 @@ entries stack = drop stack.begin stack.slots.now
 abbrev pub item : {T : Type 0} → Operations T → Shape → Slot T → Item T
 item logic Shape.predicate answer = Item.entry answer
 item logic (Shape.literal truth) answer = Item.entry (slot.Leaf (literal_value logic truth))
-item logic (Shape.function func) answer = Item.function func
+item logic (Shape.function func len) answer = Item.function func
 
 abbrev pub items : {T : Type 0} → Operations T → List ExprNode → List (Slot T) → List (Item T)
 items logic nodes slots = zip2 (item logic) (map shape nodes) slots
@@ -108,7 +108,7 @@ nodes_value logic nodes slots = option_and_then value_alone (read logic (items l
 abbrev pub slot_of : {T : Type 0} → Node T → Slot T
 slot_of (Node.leaf answer) = slot.Leaf answer
 slot_of (Node.literal truth) = slot.Empty
-slot_of (Node.function func) = slot.Empty
+slot_of (Node.function func len) = slot.Empty
 
 -- the slots hold the answers of the tree's predicates, each in the slot of its node
 pub record HoldsAnswers {T : Type 0} (nodes : List ExprNode) (slots : List (Slot T))
@@ -135,4 +135,4 @@ steps_value logic steps answers =
 abbrev pub shape_step : Shape → Step
 shape_step Shape.predicate = Ask 0
 shape_step (Shape.literal truth) = Literal truth
-shape_step (Shape.function func) = Function func
+shape_step (Shape.function func len) = Function func

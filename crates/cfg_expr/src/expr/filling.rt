@@ -10,23 +10,18 @@
 //! is true with any, and false with the second if it is false with any.
 //!
 //! One pass over the nodes makes the list `negated`, which says of each node whether it is a
-//! predicate below an odd number of `not`. The stack `pending` begins with an entry for the whole
-//! condition. Later it has one for each subtree that the pass has not reached, but whose parent it
-//! has reached. The next one is on top. An entry is true if its subtree is below an odd number of
-//! `not`.
-//!
-//! Each subtree has a node of its own, so there are never more entries than nodes. Both lists hold
-//! 33 entries inline, so for up to 33 nodes the lists take no memory.
-ghost use Rattle.std.specs.Prelude.{◌≡◌, ◌≤◌, ◌<◌, ◌+◌, ◌++◌, ◌∷◌, true, false, length};
-ghost use Rattle.std.specs.Prelude.{map, replicate, reverse, unwrap_or, List, OnErr, OnOk};
-ghost use Rattle.std.specs.Prelude.{vec_capacity};
+//! predicate below an odd number of `not`. The node of a `not` has the length of its subtree, so
+//! the pass knows where the `not` ends. Until it reaches an entry, this says whether an odd number
+//! of `not` ends in front of the node. Up to 36 entries are inline and take no memory.
+ghost use Rattle.std.specs.Prelude.{◌≡◌, ◌≤◌, ◌<◌, ◌∷◌, true, false, drop, get_or, length, map};
+ghost use Rattle.std.specs.Prelude.{not, set, unwrap_or, vec_capacity, List, IfOk, OnErr, OnOk};
 ghost use Rattle.std.specs.List.{AllByRecursion};
 ghost use Rattle.cfg_expr.specs.Given.{AreAnswersTo};
 ghost use Rattle.cfgx_grammar.specs.Answer.{HasOneTree};
 ghost use Rattle.cfgx_parser.specs.nodes.Shape.{Shape, shape};
 ghost use Rattle.cfg_expr.specs.Deciding.{AreFillingBytes, HoldsFillings, IsDecision, held};
 ghost use Rattle.cfg_expr.specs.Filling.{filling_bytes, truth_byte};
-ghost use Rattle.cfg_expr.specs.nodes.Parity.{IsPassed, filled_at, pass, turned};
+ghost use Rattle.cfg_expr.specs.nodes.Parity.{filled_at, pass, passed, turned};
 
 use super::{Condition, Decision, Func, evaluating};
 use crate::memory::SmallAllocator;
@@ -34,65 +29,68 @@ use cfgx_parser::nodes::ExprNode;
 use smallvec::SmallVec;
 use std::alloc::{AllocError, Allocator};
 
-/// Pushes `count` copies of `is_negated` to `pending`.
-fn push_repeated<A: SmallAllocator>(
-    is_negated: bool,
-    count: usize,
-    pending: &mut SmallVec<bool, 36, &A>,
-) -> Result<(), AllocError>
-    ensures { OnOk result
-        (reverse pending.new.items ≡ replicate count is_negated ++ reverse pending.old.items) }
+/// Turns the entry at `place`, if there is one, into its opposite.
+fn turn(entries: &mut [bool], place: usize)
+    ensures { entries.new ≡ set entries.old place (not (get_or entries.old place false)) }
 {
-    for _member in 0..count {
-        pending.push(is_negated)?;
+    if place < entries.len() {
+        entries[place] = !entries[place];
     }
-    Ok(())
 }
 
-/// Takes the step of the pass at `node`: pops its entry from `pending`, and pushes one for each of
-/// its members. Pushes to `negated` whether `node` is a predicate below an odd number of `not`.
-fn pass_node<A: SmallAllocator>(
-    node: &ExprNode,
-    pending: &mut SmallVec<bool, 36, &A>,
-    negated: &mut SmallVec<bool, 36, &A>,
-) -> Result<(), AllocError>
-    requires { 0 < length pending.old.items }
-    ensures one { OnOk result (length negated.new.items ≡ length negated.old.items + 1) }
-    ensures pass { OnOk result ((rest : List Shape)
-        → negated.new.items ++ pass rest (reverse pending.new.items)
-        ≡ negated.old.items ++ pass (shape node.now ∷ rest) (reverse pending.old.items)) }
+/// Takes the step of the pass at `node`, to which the first of `entries` belongs, and the others to
+/// the nodes behind it. `is_odd` says whether `node` is below an odd number of `not`, if none ends
+/// in front of it. Returns the same for the next node.
+fn pass_node(node: &ExprNode, is_odd: bool, entries: &mut [bool]) -> bool
+    requires { 0 < length entries.old }
+    ensures len { length entries.new ≡ length entries.old }
+    ensures pass { (rest : List Shape) → pass (shape node.now ∷ rest) entries.old is_odd
+        ≡ get_or entries.new 0 false ∷ pass rest (drop 1 entries.new) result }
 {
-    // By the `requires`, there is an entry.
-    let is_negated = pending.pop().unwrap();
+    let is_odd = is_odd != entries[0];
     match node {
-        ExprNode::Fn(func) => {
-            negated.push(false)?;
-            let is_not = matches!(func, Func::Not);
-            push_repeated(is_negated != is_not, func.members(), pending)?;
+        ExprNode::Fn {
+            func: Func::Not,
+            len,
+        } => {
+            // If no node is behind the subtree, nothing is turned.
+            turn(entries, *len);
+            entries[0] = false;
+            !is_odd
         }
-        ExprNode::Predicate(_) => negated.push(is_negated)?,
-        ExprNode::Literal(_) => negated.push(false)?,
+        ExprNode::Predicate(_) => {
+            entries[0] = is_odd;
+            is_odd
+        }
+        ExprNode::Fn { .. } | ExprNode::Literal(_) => {
+            entries[0] = false;
+            is_odd
+        }
     }
-    Ok(())
 }
 
-/// Passes over the nodes, and pushes to `negated`, for each, whether it is a predicate below an odd
-/// number of `not`. `pending` is the stack of the pass, which begins empty.
-fn pass_nodes<A: SmallAllocator>(
-    nodes: &[ExprNode],
-    pending: &mut SmallVec<bool, 36, &A>,
-    negated: &mut SmallVec<bool, 36, &A>,
-) -> Result<(), AllocError>
-    requires { IsPassed (map shape nodes.now) (false ∷ reverse pending.old.items) }
-    ensures { OnOk result (negated.new.items
-        ≡ negated.old.items ++ pass (map shape nodes.now) (false ∷ reverse pending.old.items)) }
+/// Passes over the nodes, and sets for each, in `negated`, whether it is a predicate below an odd
+/// number of `not`. Before, all entries are false.
+fn pass_nodes(nodes: &[ExprNode], negated: &mut [bool])
+    requires { length negated.old ≡ length nodes.now }
+    ensures { negated.new ≡ pass (map shape nodes.now) negated.old false }
 {
-    negated.reserve(nodes.len())?;
-    pending.push(false)?;
-    for node in nodes {
-        pass_node(node, pending, negated)?;
+    let mut is_odd = false;
+    for place in 0..nodes.len() {
+        is_odd = pass_node(&nodes[place], is_odd, &mut negated[place..]);
     }
-    Ok(())
+}
+
+/// Returns, for each node, whether it is a predicate below an odd number of `not`.
+fn negated_among<'a, A: SmallAllocator>(
+    alloc: &'a A,
+    nodes: &[ExprNode],
+) -> Result<SmallVec<bool, 36, &'a A>, AllocError>
+    ensures { IfOk result (λ negated. negated.items ≡ passed (map shape nodes.now)) }
+{
+    let mut negated = SmallVec::from_elem(alloc, false, nodes.len())?;
+    pass_nodes(nodes, negated.as_mut_slice());
+    Ok(negated)
 }
 
 /// Makes the capacity of `filling` at least `count`. Its items stay.
@@ -200,9 +198,7 @@ pub(crate) fn decide<A: SmallAllocator>(
         *decision = Decision::Known(value);
         return Ok(());
     }
-    let mut pending = SmallVec::new(&alloc);
-    let mut negated = SmallVec::new(&alloc);
-    pass_nodes(condition.nodes(), &mut pending, &mut negated)?;
+    let negated = negated_among(&alloc, condition.nodes())?;
     let places = condition.places();
     set_unknown(alloc, decision, negated.as_slice(), places, answers)
 }
@@ -258,9 +254,7 @@ pub(crate) fn write_fillings<A: SmallAllocator>(
     ensures refused { OnErr result
         ((if_true.new ≡ if_true.old) × (if_false.new ≡ if_false.old)) }
 {
-    let mut pending = SmallVec::new(&alloc);
-    let mut negated = SmallVec::new(&alloc);
-    pass_nodes(condition.nodes(), &mut pending, &mut negated)?;
+    let negated = negated_among(&alloc, condition.nodes())?;
     let negated = negated.as_slice();
     let places = condition.places();
     write_filling(negated, places, answers, true, if_true);

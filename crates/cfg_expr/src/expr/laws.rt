@@ -1,7 +1,7 @@
 //! Laws on the order, the values, the steps and the located predicates of all conditions, for
 //! proofs of callers. Each function does nothing, and its caller knows what it ensures.
-ghost use Rattle.std.specs.Prelude.{◌≡◌, ℕ, ◌<◌, ◌≤◌, ◌+◌, ◌*◌, Bool, List, Option, Some};
-ghost use Rattle.std.specs.Prelude.{length, map};
+ghost use Rattle.std.specs.Prelude.{◌≡◌, ℕ, ◌<◌, ◌≤◌, ◌+◌, ◌*◌, ◌∷◌, ◌++◌, Bool, List, Option};
+ghost use Rattle.std.specs.Prelude.{Some, length, map};
 ghost use Rattle.std.specs.List.{AllByRecursion};
 ghost use Rattle.cfgx_syntax.specs.Kleene.{lane};
 ghost use Rattle.cfgx_syntax.specs.Token.{Token};
@@ -13,6 +13,8 @@ ghost use Rattle.cfgx_grammar.specs.Grammar.{HasTree, IsTree, commas_and_opens};
 ghost use Rattle.cfgx_grammar.specs.Question.{Question};
 ghost use Rattle.cfgx_grammar.specs.Tree.{ListFunction, Tree, Trees, arranged, asked, asked_each};
 ghost use Rattle.cfg_expr.specs.Steps.{AreCounted, HasValue, steps_of};
+ghost use Rattle.cfg_expr.specs.StepStack.{Algebra, Entry, JoinsInAnyOrder, after_steps, as_eval};
+ghost use Rattle.cfg_expr.specs.StepStack.{as_written, folded};
 ghost use Rattle.cfgx_parser.specs.declared.located.LocatedPredicate.{LocatedPredicate};
 ghost use Rattle.cfg_expr.specs.declared.expr.steps.Step.{Step};
 
@@ -54,15 +56,45 @@ pub fn lanes_are_homomorphisms()
         → IsHomomorphism lane_valued three_valued (Passes is_disjoint) (lane i) }
 {}
 
-/// The steps of a condition have its value over answers to its predicates. So a loop that reads the
-/// steps from the last to the first with a stack, and joins members as `list_value` does, evaluates
-/// the condition in any logic.
+/// The steps of a condition have its value over answers to its predicates.
 pub fn steps_have_the_value<T: Logic>()
     ensures value { (tree : Tree Question) (answers : List T)
         → length answers ≡ length (asked tree)
         → HasValue T.Logic (steps_of tree) answers (tree_fold T.Logic tree answers) }
     ensures counted { (tree : Tree Question) (answers : List T)
         → length answers ≡ length (asked tree) → AreCounted (steps_of tree) answers }
+{}
+
+/// A loop of a caller's own that reads the steps of a condition, from the last to the first with a
+/// stack, leaves one value more on the stack. The values may be of any type: `algebra` says what is
+/// pushed for an answer, for a literal, and for a function over the values of its members. When the
+/// loop has read some of the steps, it has pushed no more values than it has read steps. So a stack
+/// with room for one value for each step is never full before a push.
+pub fn steps_are_read_with_a_stack<T: Logic, S>()
+    ensures folded { (algebra : Algebra T S) (tree : Tree Question) (answers : List T)
+        (stack : List S) → length answers ≡ length (asked tree)
+        → after_steps algebra answers (steps_of tree) stack
+        ≡ Some (folded algebra (answered T.Logic.top tree answers) ∷ stack) }
+    ensures height { (algebra : Algebra T S) (tree : Tree Question) (answers : List T)
+        (stack : List S) (before read : List Step) → length answers ≡ length (asked tree)
+        → steps_of tree ≡ before ++ read
+        → (left : List S) × (after_steps algebra answers read stack ≡ Some left)
+        × (length left ≤ length read + length stack) }
+{}
+
+/// A loop that reads the steps of a condition, from the last to the first over any stack, pushes
+/// the value of the condition, if it joins members in the order of `eval`. In a logic whose values
+/// may be joined in any order, it may join members as they stand in the text.
+pub fn steps_push_the_value<T: Logic>()
+    ensures as_eval { (tree : Tree Question) (answers : List T) (stack : List (Entry T))
+        → length answers ≡ length (asked tree)
+        → (entry : Entry T) × (entry.value ≡ tree_fold T.Logic tree answers)
+        × (after_steps (as_eval T.Logic) answers (steps_of tree) stack ≡ Some (entry ∷ stack)) }
+    ensures as_written { JoinsInAnyOrder T.Logic.and → JoinsInAnyOrder T.Logic.or
+        → (tree : Tree Question) (answers : List T) (stack : List T)
+        → length answers ≡ length (asked tree)
+        → after_steps (as_written T.Logic) answers (steps_of tree) stack
+        ≡ Some (tree_fold T.Logic tree answers ∷ stack) }
 {}
 
 /// Steps have one value over the same answers.

@@ -180,7 +180,7 @@ fn step_of(node: &ExprNode) -> Step
     ensures { result ≡ shape_step (shape node.now) }
 {
     match node {
-        ExprNode::Fn(func) => Step::Function(*func),
+        ExprNode::Fn { func, .. } => Step::Function(*func),
         ExprNode::Literal(truth) => Step::Literal(*truth),
         ExprNode::Predicate(_) => Step::Ask(0),
     }

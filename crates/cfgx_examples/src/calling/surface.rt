@@ -4,7 +4,10 @@ use super::streams::Kept;
 use cfg_expr::error::laws::{expected_terms_have_a_number, faults_lie_in_their_text};
 use cfg_expr::error::{Failure, Reason};
 use cfg_expr::expr::Logic;
-use cfg_expr::expr::laws::{homomorphisms_keep_values, lanes_are_homomorphisms};
+use cfg_expr::expr::laws::{
+    homomorphisms_keep_values, lanes_are_homomorphisms, steps_are_read_with_a_stack,
+    steps_push_the_value,
+};
 use cfg_expr::expr::lexer::Lexer;
 use cfg_expr::expr::lexer::laws::{lexical_faults_lie_in_their_text, tokens_lie_in_order};
 use cfg_expr::expr::logic::Kleene64;
@@ -13,7 +16,8 @@ use cfg_expr::targets::{Endian, Families, Family, HasAtomic, HasAtomicFailure, H
 use cfgx_engine::engine::laws::{has_an_output, has_one_output};
 use cfgx_engine::engine::streams::write_whole;
 use cfgx_fields::reading::{read_endian, read_has_atomic, read_u8, read_u16};
-use cfgx_parser::asked::laws::numbers_tell_what_is_asked;
+use cfgx_fields::text_key::laws::equal_keys_are_the_same;
+use cfgx_parser::asked::laws::{equal_asked_are_the_same, numbers_tell_what_is_asked};
 use cfgx_syntax::error::laws::{
     lists_have_different_numbers, numbers_name_the_reason, reasons_have_different_numbers,
 };
@@ -125,6 +129,8 @@ fn values_are_read_and_made(rt: HostRuntime) -> Result<(), &'static str> {
 fn call_laws() {
     homomorphisms_keep_values::<bool, Option<bool>>();
     lanes_are_homomorphisms();
+    steps_are_read_with_a_stack::<bool, usize>();
+    steps_push_the_value::<Option<bool>>();
     tokens_lie_in_order();
     lexical_faults_lie_in_their_text();
     faults_lie_in_their_text();
@@ -133,6 +139,8 @@ fn call_laws() {
     lists_have_different_numbers();
     numbers_name_the_reason();
     numbers_tell_what_is_asked();
+    equal_asked_are_the_same();
+    equal_keys_are_the_same();
     has_an_output();
     has_one_output();
 }

@@ -1,9 +1,13 @@
 //! Audits by facts. If an audit is out of memory, its index is that of the text at which a growth
 //! was refused.
 use super::Outcome;
+use super::verdicts::check_items;
+use cfg_expr::Expression;
 use cfg_expr::error::Failure;
 use cfg_expr::memory::SmallAllocator;
-use cfgx_engine::resolve::{AuditError, Facts, FactsError, Otherwise, audit_facts};
+use cfgx_engine::resolve::{
+    AuditError, Facts, FactsError, Otherwise, audit_conditions, audit_facts,
+};
 use cfgx_testing::answers::{Answer, answer_of};
 use cfgx_testing::heap::{Heap, count_growths};
 use std::alloc::{AllocError, Global};
@@ -78,6 +82,31 @@ fn check_audit<A: SmallAllocator>(heap: Heap<'_>, alloc: A, audit: Audit<'_>) ->
     match &one_target(alloc) {
         Ok(targets) => check_on(heap, alloc, audit, targets.as_slice(), asked),
         Err(_) => Err(AllocError),
+    }
+}
+
+// Checks the value of a condition that is read already on the targets.
+fn check_audited<A: SmallAllocator>(
+    alloc: A,
+    value: Answer,
+    expression: &Expression<A>,
+    targets: &[Facts<A>],
+) -> Outcome {
+    let conditions = [expression.condition()];
+    let found = audit_conditions(alloc, &conditions, targets, Otherwise::False);
+    check_items(&found, &[value])
+}
+
+/// Checks that the condition has the value of the digit on a target with the fact `a`.
+pub(super) fn check_condition<A: SmallAllocator>(alloc: A, digit: &str, text: &str) -> Outcome {
+    let Some(value) = digit.as_bytes().first().copied().and_then(answer_of) else {
+        return Ok(false);
+    };
+    match (&Expression::parse(alloc, text), &one_target(alloc)) {
+        (Ok(expression), Ok(targets)) => {
+            check_audited(alloc, value, expression, targets.as_slice())
+        }
+        _ => Err(AllocError),
     }
 }
 

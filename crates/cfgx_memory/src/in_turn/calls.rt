@@ -1,4 +1,5 @@
-//! Values that are made and copied, and inputs that are read.
+//! Values that are made and copied, inputs that are read, and conditions that are audited.
+use super::audits::check_condition;
 use super::facts::check_facts;
 use super::fields::{check_field, check_plain_predicate, check_predicate};
 use super::inputs::{check_input, stops_at_failed_read};
@@ -62,6 +63,9 @@ facts lines | some | a | all(b, not(a)) | ?cfg(key = "v") | any(~b,~40~)\
  | target_x = "y" | feature | ?target_os
 facts with a faulty flag | some | key) | ?not(a, b) | "~v~1000~ | target_x = "y"
 facts with a faulty line | some | key) | ?not(a, b) | "~v~1000~ | target_feature = ""
+// The value, as a digit, of a condition on a target with the fact `a`.
+audit 1 | some | a | all(a, not(b)) | any(~b,~40~a) | ~not(~40~a~)~40~
+audit 0 | some | b | all(b, any(a), not(a), c, d, e, f, g, h)
 unaskable | some | target_x = "y" | cfg(feature)
 input | some | \e | ----------
 input | some | ~-~300000~
@@ -89,6 +93,7 @@ pub(super) fn check_call<A: SmallAllocator>(
         ("builtin", "") => check_builtin(alloc, text),
         ("fault", "") => check_copied_fault(alloc, text),
         ("facts", _) => check_facts(alloc, name, text),
+        ("audit", _) => check_condition(alloc, name, text),
         ("unaskable", "") => is_unaskable(alloc, text),
         ("input", "") => check_input(global, alloc, text.as_bytes()),
         ("failed", "read") => Ok(stops_at_failed_read(alloc, text)),

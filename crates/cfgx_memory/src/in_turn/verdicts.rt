@@ -32,8 +32,8 @@ pub(super) fn check_decider<A: SmallAllocator>(alloc: A, expression: &Expression
     }
 }
 
-// Checks that `items` equal `wanted`.
-fn check_items<T: PartialEq + Drop, A: SmallAllocator>(
+/// Checks that `items` equal `wanted`.
+pub(super) fn check_items<T: PartialEq + Drop, A: SmallAllocator>(
     items: &AllocResult<Vec<T, A>>,
     wanted: &[T],
 ) -> Outcome {

@@ -13,7 +13,7 @@ use Rattle.cfgx_grammar.{specs.parsing.State.Function, proofs.accepted.leaf_tree
 use Rattle.cfgx_parser.specs.Located.{IsSpan, at, predicate_located, whole_span}
 use Rattle.cfgx_parser.specs.ReadFrom.{IsReadFrom}
 use Rattle.cfgx_parser.specs.{nodes.Node.{Written, located, with_leaf}, declared.located.Span.Span}
-use Rattle.cfgx_parser.specs.nodes.Prefix.{Node, prefix, prefix_each, places, places_by}
+use Rattle.cfgx_parser.specs.nodes.Prefix.{Node, headed, prefix, prefix_each, places, places_by}
 use Rattle.cfgx_parser.{specs.nodes.Prefix.with_places, proofs.spelled.WritingLemmas.length-nodes}
 use Rattle.cfgx_parser.specs.nodes.WritesNodes.{IsPlaced, ArePlaced, WritesNodes}
 use Rattle.cfgx_parser.specs.parsing.NodeState.{func_of, node_builder}
@@ -32,7 +32,7 @@ inner place tree = if is_function (with_places place tree) then places place tre
 
 -- the tree is a call of the function with these members
 record Called (function : Function) (tree : Tree Question) (trees : Trees Question) : Type 0 where
-  pub prefix_is : prefix tree ≡ Node.function (func_of function (count trees)) ∷ prefix_each trees
+  pub prefix_is : prefix tree ≡ headed (func_of function (count trees)) (prefix_each trees)
   pub places_are : (place : ℕ) → places place tree ≡ places_by is_function (place + 1) trees
       ++ places_by is_leaf (place + 1) trees
   pub is_no_leaf : (place : ℕ) → is_leaf (with_places place tree) ≡ false

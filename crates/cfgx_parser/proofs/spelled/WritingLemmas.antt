@@ -7,7 +7,7 @@ use Rattle.cfgx_grammar.{specs.Question.Question, proofs.ListLemmas.all_of_both}
 use Rattle.cfgx_parser.specs.ReadFrom.{AreReadFrom}
 use Rattle.cfgx_parser.specs.nodes.Node.{Written, opening_of, asked_at, with_leaf}
 use Rattle.cfgx_parser.specs.nodes.Node.{with_function, with_function_ended}
-use Rattle.cfgx_parser.specs.nodes.Prefix.{Node, node_at, predicates_in}
+use Rattle.cfgx_parser.specs.nodes.Prefix.{Node, node_at, headed, predicates_in}
 use Rattle.cfgx_parser.specs.nodes.WritesNodes.{NodeHasCut, WritesNodes}
 use Rattle.cfgx_parser.{specs.declared.function.Func.Func, specs.declared.nodes.ExprNode.ExprNode}
 use Rattle.cfgx_parser.specs.declared.nodes.ExprNode.TheVariants as node
@@ -51,7 +51,7 @@ predicates-append : (nodes more : List ExprNode)
 predicates-append [] more = refl
 predicates-append (node.Predicate predicate ∷ nodes) more =
     ap (λ l. predicate ∷ l) (predicates-append nodes more)
-predicates-append (node.Fn func ∷ nodes) more = predicates-append nodes more
+predicates-append (node.Fn func len ∷ nodes) more = predicates-append nodes more
 predicates-append (node.Literal truth ∷ nodes) more = predicates-append nodes more
 
 -- What is written.
@@ -95,7 +95,7 @@ pub WritesNodes-function : {text : List ℕ} {members : List Item} {w v : Writte
     {shown : List (Node Question)} {own inner : List ℕ} (head opening closing : Item) (func : Func)
     → WritesNodes text members (with_function w) v shown own inner
     → WritesNodes text (head ∷ opening ∷ (members ++ closing ∷ [])) w
-    (with_function_ended (opening_of w) func v) (Node.function func ∷ shown) [] (inner ++ own)
+    (with_function_ended (opening_of w) func v) (headed func shown) [] (inner ++ own)
 WritesNodes-function {text} {members} {w} {v} {shown} {own} head opening closing func a =
     let read = read_behind (head ∷ opening ∷ []) (members ++ closing ∷ []) (predicates_in a.added)
     (read_before members (closing ∷ []) (predicates_in a.added) a.read) in

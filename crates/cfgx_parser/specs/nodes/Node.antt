@@ -1,5 +1,5 @@
 -- What the writer of nodes has written, and what each of its calls changes.
-use Rattle.std.specs.Prelude.{ℕ, List, [], ◌∷◌, ◌++◌, length, take, drop, set, Option}
+use Rattle.std.specs.Prelude.{ℕ, ◌-◌, List, [], ◌∷◌, ◌++◌, length, take, drop, set, Option}
 use Rattle.cfgx_grammar.specs.Question.{Leaf}
 use Rattle.cfgx_parser.specs.Located.{predicate_located}
 use Rattle.cfgx_parser.specs.declared.function.Func.{Func}
@@ -31,7 +31,7 @@ opening_of w = record { node = length w.nodes; waiting = length w.waiting }
 
 -- the place of a node, if it is a predicate
 abbrev pub asked_at : ExprNode → ℕ → List ℕ
-asked_at (node.Fn func) place = []
+asked_at (node.Fn func len) place = []
 asked_at (node.Predicate predicate) place = place ∷ []
 asked_at (node.Literal truth) place = []
 
@@ -46,9 +46,10 @@ with_leaf leaf w = record w {
   waiting = w.waiting ++ asked_at leaf (length w.nodes);
 }
 
--- the node of a function that has not ended: which one it is and its members are not known
+-- the node of a function that has not ended: which one it is, its members and the length of its
+-- subtree are not known
 abbrev pub begun : ExprNode
-begun = node.Fn Not
+begun = node.Fn Not 0
 
 abbrev pub with_function : Written → Written
 with_function w = with_node begun w
@@ -61,9 +62,11 @@ with_list_ended begin w = record w {
       ++ drop begin w.waiting;
 }
 
--- the node of a function whose members are all written is completed
+-- The node of a function whose members are all written is completed: its subtree are the nodes from
+-- it on.
 abbrev pub completed : ℕ → Func → Written → Written
-completed place func w = record w { nodes = set w.nodes place (node.Fn func) }
+completed place func w =
+    record w { nodes = set w.nodes place (node.Fn func (length w.nodes - place)) }
 
 -- the function that began at the opening ends
 abbrev pub with_function_ended : Opening → Func → Written → Written

@@ -14,23 +14,24 @@ use Rattle.cfgx_parser.specs.declared.located.LocatedPredicate.{LocatedPredicate
 pub data Node (X : Type 0) : Type 0 where
   leaf : X → Node X
   literal : Bool → Node X
-  function : Func → Node X
+  -- with the number of nodes of its subtree, itself among them
+  function : Func → ℕ → Node X
 
 -- the node with `f` of its leaf
 abbrev pub node_map : {X Y : Type 0} → (X → Y) → Node X → Node Y
 node_map f (Node.leaf x) = Node.leaf (f x)
 node_map f (Node.literal truth) = Node.literal truth
-node_map f (Node.function func) = Node.function func
+node_map f (Node.function func len) = Node.function func len
 
 -- the node of the program, whose leaf is a predicate where it stands
 abbrev pub inner_node : ExprNode → Node LocatedPredicate
-inner_node (node.Fn func) = Node.function func
+inner_node (node.Fn func len) = Node.function func len
 inner_node (node.Predicate predicate) = Node.leaf predicate
 inner_node (node.Literal truth) = Node.literal truth
 
 -- the predicate of a node, if it is one
 abbrev pub predicate_of : ExprNode → Option LocatedPredicate
-predicate_of (node.Fn func) = None
+predicate_of (node.Fn func len) = None
 predicate_of (node.Predicate predicate) = Some predicate
 predicate_of (node.Literal truth) = None
 
@@ -40,18 +41,21 @@ predicates_in nodes = filter_map predicate_of nodes
 
 -- the node of the program, whose leaf is what its predicate asks
 abbrev pub node_at : List ℕ → ExprNode → Node Question
-node_at text (node.Fn func) = Node.function func
+node_at text (node.Fn func len) = Node.function func len
 node_at text (node.Predicate predicate) = Node.leaf (question_at text predicate)
 node_at text (node.Literal truth) = Node.literal truth
 
--- the nodes of a tree: that of a function, and then those of its members
+-- the node of a function, and then those of its members; it has the number of all these nodes
+abbrev pub headed : {X : Type 0} → Func → List (Node X) → List (Node X)
+headed func members = Node.function func (1 + length members) ∷ members
+
+-- the nodes of a tree
 abbrev mutual
   pub prefix : {X : Type 0} → Tree X → List (Node X)
   prefix (Tree.leaf x) = Node.leaf x ∷ []
   prefix (Tree.literal truth) = Node.literal truth ∷ []
-  prefix (Tree.list which trees) =
-      Node.function (list_func which (count trees)) ∷ prefix_each trees
-  prefix (Tree.not tree) = Node.function Not ∷ prefix tree
+  prefix (Tree.list which trees) = headed (list_func which (count trees)) (prefix_each trees)
+  prefix (Tree.not tree) = headed Not (prefix tree)
 
   pub prefix_each : {X : Type 0} → Trees X → List (Node X)
   prefix_each Trees.none = []

@@ -13,7 +13,7 @@ use Rattle.cfgx_parser.specs.declared.nodes.ExprNode.{ExprNode}
 use Rattle.cfgx_parser.specs.declared.nodes.ExprNode.TheVariants as node
 
 abbrev pub NodeHasCut : List ℕ → ExprNode → Type 0
-NodeHasCut text (node.Fn func) = Unit {0}
+NodeHasCut text (node.Fn func len) = Unit {0}
 NodeHasCut text (node.Predicate predicate) = HasCut text predicate
 NodeHasCut text (node.Literal truth) = Unit {0}
 

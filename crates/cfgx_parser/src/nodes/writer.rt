@@ -65,6 +65,7 @@ impl<A: SmallAllocator> NodeWriter<A> {
     ghost use Rattle.cfgx_parser.specs.nodes.NodeWriter.{written_of, KeepsNodes};
 
     /// Returns a writer that has written nothing of a text of `len` bytes.
+    #[inline(always)]
     pub(crate) fn new(alloc: A, len: usize) -> Self
         ensures { written_of result ≡ nothing }
     {
@@ -176,7 +177,10 @@ impl<A: SmallAllocator> NodeWriter<A> {
         ensures kept { KeepsNodes (written_of self.old) (written_of self.new) }
         ensures room { OnErr result (5 ≤ length (written_of self.old).nodes) }
     {
-        let node = self.push_node(ExprNode::Fn(Func::Not))?;
+        let node = self.push_node(ExprNode::Fn {
+            func: Func::Not,
+            len: 0,
+        })?;
         let waiting = self.waiting_count;
         Ok(Opening { node, waiting })
     }
@@ -239,7 +243,8 @@ impl<A: SmallAllocator> NodeWriter<A> {
     {
         // Always true: the node was written when the function began.
         if place < self.node_count {
-            self.nodes[place] = ExprNode::Fn(func);
+            let len = self.node_count - place;
+            self.nodes[place] = ExprNode::Fn { func, len };
         }
     }
 

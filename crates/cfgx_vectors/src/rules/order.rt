@@ -40,25 +40,12 @@ pub(super) fn calls_text(alloc: Global, text: &str) -> Result<String, Failure> {
     Ok(texts_of_calls(alloc, expression.predicates())?)
 }
 
-// Returns the number of members of a node.
-fn member_count(node: &ExprNode) -> usize {
+// Returns the length of the subtree of a node, which that of a function keeps.
+fn subtree_len(node: &ExprNode) -> usize {
     match node {
-        ExprNode::Fn(func) => func.members(),
-        ExprNode::Predicate(_) | ExprNode::Literal(_) => 0,
+        ExprNode::Fn { len, .. } => *len,
+        ExprNode::Predicate(_) | ExprNode::Literal(_) => 1,
     }
-}
-
-// Returns the number of nodes of the tree that begins with the first node, or 0 if some are missing.
-fn tree_length(nodes: &[ExprNode]) -> usize {
-    // How many trees are still to be read
-    let mut left: usize = 1;
-    for (place, node) in nodes.iter().enumerate() {
-        left = left.saturating_sub(1).saturating_add(member_count(node));
-        if left == 0 {
-            return place.saturating_add(1);
-        }
-    }
-    0
 }
 
 // Pushes a number, with a space before it unless it is the first.
@@ -76,8 +63,8 @@ fn push_numbers(
     nodes: &[ExprNode],
     places: &[usize],
 ) -> Result<(), AllocError> {
-    for place in 0..nodes.len() {
-        push_number(alloc, text, tree_length(&nodes[place..]))?;
+    for node in nodes {
+        push_number(alloc, text, subtree_len(node))?;
     }
     text.push_str(";")?;
     for place in places {

@@ -105,6 +105,7 @@ impl<A: SmallAllocator> Expression<A> {
     ///
     /// `Failure::Parse`: the first fault of the text, whose span lies in the text without an outer
     /// `cfg( )`. `Failure::Memory`: `alloc` refused memory.
+    #[inline]
     pub fn parse(alloc: A, text: &str) -> Result<Self, Failure<A>> {
         let lexer = Lexer::new(alloc, text);
         let original = lexer.original();
@@ -134,6 +135,7 @@ impl<A: SmallAllocator> Expression<A> {
     /// # Errors
     ///
     /// `AllocError`: `alloc` refused memory.
+    #[inline]
     pub fn try_clone(&self, alloc: A) -> Result<Self, AllocError> {
         Ok(Expression {
             original: String::from_str(alloc, self.original.as_str())?,

@@ -15,7 +15,7 @@ use crate::engine::cfg_expr::{Decision, Expression, Predicate};
 use crate::engine::rattle::alloc::{AllocError, Global};
 use crate::engine::rattle::prelude::{String, Vec};
 use auditing::push_values;
-pub use by_facts::{AuditError, audit_facts};
+pub use by_facts::{AuditError, audit_conditions, audit_facts};
 pub use facts::{Facts, FactsError, Otherwise};
 use std::fmt;
 use std::mem::swap;

@@ -201,6 +201,7 @@ fn unclosed(top: &OpenFunc, list: OpenList, len: usize) -> Fault {
 
 impl<'a, A: SmallAllocator> Parser<'a, A> {
     /// Returns a parser that has read nothing of a text of `len` bytes.
+    #[inline(always)]
     pub fn new(alloc: A, len: usize) -> Self {
         Parser {
             func_stack: SmallVec::new(alloc),
@@ -454,6 +455,7 @@ impl<'a, A: SmallAllocator> Parser<'a, A> {
     }
 
     /// Returns the nodes that were written, and the places of the predicates among them.
+    #[inline(always)]
     pub fn into_parts(self) -> (SmallVec<ExprNode, 5, A>, SmallVec<usize, 4, A>) {
         let Parser { writer, .. } = self;
         let NodeWriter { nodes, places, .. } = writer;

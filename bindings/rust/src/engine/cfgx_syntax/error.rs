@@ -21,7 +21,7 @@ const CARETS: &str = "^^^^^^^^^^^^^^^^^^^^^^^^^^^^^^^^^^^^^^^^^^^^^^^^^^^^^^^^^^
 pub enum Reason {
     /// A `not` with no member or several. The field is the number of its members.
     InvalidNot(usize),
-    /// Characters that no expression has. No call of this crate returns it.
+    /// Characters that no expression has. No text has this fault.
     InvalidCharacters,
     /// A parenthesis is never closed.
     UnclosedParens,
@@ -29,7 +29,7 @@ pub enum Reason {
     UnopenedParens,
     /// A quote is never closed.
     UnclosedQuotes,
-    /// A quote is closed that was never opened. No call of this crate returns it.
+    /// A quote is closed that was never opened. No text has this fault.
     UnopenedQuotes,
     /// The text has no predicate, literal or function.
     Empty,
@@ -43,7 +43,7 @@ pub enum Reason {
     MultipleRootPredicates,
     /// The width of an atomic is neither an integer nor `ptr`.
     InvalidHasAtomic,
-    /// A built-in name that is not known. No call of this crate returns it.
+    /// A built-in name that is not known. No text has this fault.
     UnknownBuiltin,
 }
 
@@ -180,8 +180,8 @@ impl Reason {
         }
     }
 
-    // Returns the reason in a few words, without its number and its terms.
-    fn description(self) -> &'static str {
+    /// Returns the reason in a few words, without its number and its terms.
+    pub fn description(self) -> &'static str {
         match self {
             Reason::InvalidNot(_) => "not() takes 1 predicate",
             Reason::InvalidCharacters => "invalid character(s)",
@@ -254,17 +254,24 @@ impl<A: Allocator> ParseError<A> {
 
 impl<A: Allocator> fmt::Display for ParseError<A> {
     fn fmt(&self, f: &mut fmt::Formatter) -> fmt::Result {
-        f.write_str(self.original.as_str())?;
-        f.write_str("\n")?;
-        write_spaces(f, self.span.start)?;
-        write_marks(
-            f,
-            self.span.end.saturating_sub(self.span.start),
-            self.reason,
-        )?;
-        f.write_str(" ")?;
-        f.write(self.reason)
+        write_fault(f, self.original.as_str(), &self.span, self.reason)
     }
+}
+
+/// Writes the fault `reason` at the bytes `span` of `original`, as a `ParseError` is printed: the
+/// text, a line feed, the marks below the span, and the reason.
+pub fn write_fault(
+    f: &mut fmt::Formatter,
+    original: &str,
+    span: &Range<usize>,
+    reason: Reason,
+) -> fmt::Result {
+    f.write_str(original)?;
+    f.write_str("\n")?;
+    write_spaces(f, span.start)?;
+    write_marks(f, span.end.saturating_sub(span.start), reason)?;
+    f.write_str(" ")?;
+    f.write(reason)
 }
 
 // Writes the marks below a span of `width` bytes.

@@ -3,8 +3,8 @@ use Rattle.std.proofs.Common.{◌∷◌, ◌++◌, [], arith, refl}
 use Rattle.std.proofs.lemmas.List.{length-append}
 use Rattle.cfgx_syntax.specs.{Lexer.item_of}
 use Rattle.cfgx_c.specs.Tokens.{c_token}
-use Rattle.cfgx_c.proofs.TokenLemmas.{HasTokens-end, HasTokens-fault, Reads-start, Reads-token}
-use Rattle.cfgx_c.proofs.TokenLemmas.{place_rises}
+use Rattle.cfgx_c.proofs.TokenLemmas.{HasLexicalFault-next, HasTokens-end, HasTokens-fault}
+use Rattle.cfgx_c.proofs.TokenLemmas.{Reads-start, Reads-token, place_rises}
 use Rattle.cfgx_c.proofs.tokens.count_tokens.Goals as goal
 
 pub loop-lexed-init : goal.loop-lexed-init
@@ -27,8 +27,8 @@ loop-lexed-preserved c =
       omega (arith, few, place_rises reads c.in-Ok.field-0 c.next.new.self gives),
     )
 
-pub returns-in-Err-Parse : goal.returns-in-Err-Parse
-returns-in-Err-Parse c =
+pub returns-in-Err-Parse-clause-ok : goal.returns-in-Err-Parse-clause-ok
+returns-in-Err-Parse-clause-ok c =
     let (tokens, reads, count, few) = c.loop-lexed.invariant in
     let gives = rw (c.in-Err-Parse.is, c.in-Err-Parse.field-0-is) at c.in-Some.ensures.steps in (
       tokens,
@@ -37,7 +37,13 @@ returns-in-Err-Parse c =
       count,
     )
 
-pub returns : goal.returns
-returns c =
+pub returns-in-Err-Memory-clause-err : goal.returns-in-Err-Memory-clause-err
+returns-in-Err-Memory-clause-err c =
+    let (tokens, reads, count, few) = c.loop-lexed.invariant in
+    let gives = rw c.in-Err-Memory.is at c.in-Some.ensures.steps in
+    HasLexicalFault-next reads c.in-Err-Memory.field-0 c.next.new.self gives
+
+pub returns-clause-ok : goal.returns-clause-ok
+returns-clause-ok c =
     let (tokens, reads, count, few) = c.loop-lexed.invariant in
     (tokens, HasTokens-end reads c.in-None.ensures.steps.0, count)

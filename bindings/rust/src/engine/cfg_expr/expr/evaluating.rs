@@ -162,7 +162,7 @@ impl<T: Logic> Stack<'_, T> {
                 self.push(answer);
             }
             ExprNode::Literal(truth) => self.push(Slot::Leaf(literal_value(*truth))),
-            ExprNode::Fn(func) => self.apply(*func)?,
+            ExprNode::Fn { func, .. } => self.apply(*func)?,
         }
         Some(())
     }
@@ -188,7 +188,7 @@ fn eval_nodes<T: Logic>(nodes: &[ExprNode], slots: &mut [Slot<T>]) -> Option<T> 
     stack.into_value()
 }
 
-/// Pushes `count` empty slots to `slots`, which is new. Up to 33 are inline and take no memory.
+/// Pushes `count` empty slots to `slots`, which is new. Up to 36 are inline and take no memory.
 /// `eval_steps` promises this for 33 steps. `eval` promises it for a text of at most 66 bytes: `n`
 /// nodes take at least `2 * n - 1` bytes, so this one has at most 33.
 // A new vector that was returned in a `Result` would be copied out of it.

@@ -13,13 +13,9 @@
 //! is true with any, and false with the second if it is false with any.
 //!
 //! One pass over the nodes makes the list `negated`, which says of each node whether it is a
-//! predicate below an odd number of `not`. The stack `pending` begins with an entry for the whole
-//! condition. Later it has one for each subtree that the pass has not reached, but whose parent it
-//! has reached. The next one is on top. An entry is true if its subtree is below an odd number of
-//! `not`.
-//!
-//! Each subtree has a node of its own, so there are never more entries than nodes. Both lists hold
-//! 33 entries inline, so for up to 33 nodes the lists take no memory.
+//! predicate below an odd number of `not`. The node of a `not` has the length of its subtree, so
+//! the pass knows where the `not` ends. Until it reaches an entry, this says whether an odd number
+//! of `not` ends in front of the node. Up to 36 entries are inline and take no memory.
 
 use super::{Condition, Decision, Func, evaluating};
 use crate::engine::cfg_expr::memory::SmallAllocator;
@@ -28,52 +24,56 @@ use crate::engine::rattle::alloc::{AllocError, Allocator};
 use crate::engine::rattle::prelude::Vec;
 use crate::engine::rattle::smallvec::SmallVec;
 
-/// Pushes `count` copies of `is_negated` to `pending`.
-fn push_repeated<A: SmallAllocator>(
-    is_negated: bool,
-    count: usize,
-    pending: &mut SmallVec<bool, 36, &A>,
-) -> Result<(), AllocError> {
-    for _member in 0..count {
-        pending.push(is_negated)?;
+/// Turns the entry at `place`, if there is one, into its opposite.
+fn turn(entries: &mut [bool], place: usize) {
+    if place < entries.len() {
+        entries[place] = !entries[place];
     }
-    Ok(())
 }
 
-/// Takes the step of the pass at `node`: pops its entry from `pending`, and pushes one for each of
-/// its members. Pushes to `negated` whether `node` is a predicate below an odd number of `not`.
-fn pass_node<A: SmallAllocator>(
-    node: &ExprNode,
-    pending: &mut SmallVec<bool, 36, &A>,
-    negated: &mut SmallVec<bool, 36, &A>,
-) -> Result<(), AllocError> {
-    // By the `requires`, there is an entry.
-    let is_negated = pending.pop().unwrap();
+/// Takes the step of the pass at `node`, to which the first of `entries` belongs, and the others to
+/// the nodes behind it. `is_odd` says whether `node` is below an odd number of `not`, if none ends
+/// in front of it. Returns the same for the next node.
+fn pass_node(node: &ExprNode, is_odd: bool, entries: &mut [bool]) -> bool {
+    let is_odd = is_odd != entries[0];
     match node {
-        ExprNode::Fn(func) => {
-            negated.push(false)?;
-            let is_not = matches!(func, Func::Not);
-            push_repeated(is_negated != is_not, func.members(), pending)?;
+        ExprNode::Fn {
+            func: Func::Not,
+            len,
+        } => {
+            // If no node is behind the subtree, nothing is turned.
+            turn(entries, *len);
+            entries[0] = false;
+            !is_odd
         }
-        ExprNode::Predicate(_) => negated.push(is_negated)?,
-        ExprNode::Literal(_) => negated.push(false)?,
+        ExprNode::Predicate(_) => {
+            entries[0] = is_odd;
+            is_odd
+        }
+        ExprNode::Fn { .. } | ExprNode::Literal(_) => {
+            entries[0] = false;
+            is_odd
+        }
     }
-    Ok(())
 }
 
-/// Passes over the nodes, and pushes to `negated`, for each, whether it is a predicate below an odd
-/// number of `not`. `pending` is the stack of the pass, which begins empty.
-fn pass_nodes<A: SmallAllocator>(
-    nodes: &[ExprNode],
-    pending: &mut SmallVec<bool, 36, &A>,
-    negated: &mut SmallVec<bool, 36, &A>,
-) -> Result<(), AllocError> {
-    negated.reserve(nodes.len())?;
-    pending.push(false)?;
-    for node in nodes {
-        pass_node(node, pending, negated)?;
+/// Passes over the nodes, and sets for each, in `negated`, whether it is a predicate below an odd
+/// number of `not`. Before, all entries are false.
+fn pass_nodes(nodes: &[ExprNode], negated: &mut [bool]) {
+    let mut is_odd = false;
+    for place in 0..nodes.len() {
+        is_odd = pass_node(&nodes[place], is_odd, &mut negated[place..]);
     }
-    Ok(())
+}
+
+/// Returns, for each node, whether it is a predicate below an odd number of `not`.
+fn negated_among<'a, A: SmallAllocator>(
+    alloc: &'a A,
+    nodes: &[ExprNode],
+) -> Result<SmallVec<bool, 36, &'a A>, AllocError> {
+    let mut negated = SmallVec::from_elem(alloc, false, nodes.len())?;
+    pass_nodes(nodes, negated.as_mut_slice());
+    Ok(negated)
 }
 
 /// Makes the capacity of `filling` at least `count`. Its items stay.
@@ -157,9 +157,7 @@ pub(crate) fn decide<A: SmallAllocator>(
         *decision = Decision::Known(value);
         return Ok(());
     }
-    let mut pending = SmallVec::new(&alloc);
-    let mut negated = SmallVec::new(&alloc);
-    pass_nodes(condition.nodes(), &mut pending, &mut negated)?;
+    let negated = negated_among(&alloc, condition.nodes())?;
     let places = condition.places();
     set_unknown(alloc, decision, negated.as_slice(), places, answers)
 }
@@ -199,9 +197,7 @@ pub(crate) fn write_fillings<A: SmallAllocator>(
     if_true: &mut [u8],
     if_false: &mut [u8],
 ) -> Result<(), AllocError> {
-    let mut pending = SmallVec::new(&alloc);
-    let mut negated = SmallVec::new(&alloc);
-    pass_nodes(condition.nodes(), &mut pending, &mut negated)?;
+    let negated = negated_among(&alloc, condition.nodes())?;
     let negated = negated.as_slice();
     let places = condition.places();
     write_filling(negated, places, answers, true, if_true);

@@ -133,7 +133,7 @@ impl FromStep for Step {
 /// writes the step with its own number.
 fn step_of(node: &ExprNode) -> Step {
     match node {
-        ExprNode::Fn(func) => Step::Function(*func),
+        ExprNode::Fn { func, .. } => Step::Function(*func),
         ExprNode::Literal(truth) => Step::Literal(*truth),
         ExprNode::Predicate(_) => Step::Ask(0),
     }

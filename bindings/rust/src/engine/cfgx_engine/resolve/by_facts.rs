@@ -144,6 +144,27 @@ pub fn audit_facts<A: SmallAllocator>(
     Ok(values)
 }
 
+/// Returns the value of each condition on each target, as `audit_facts` does. The conditions are
+/// read already.
+///
+/// # Errors
+///
+/// `AllocError`: `alloc` refused memory.
+pub fn audit_conditions<A: SmallAllocator>(
+    alloc: A,
+    conditions: &[Condition<'_>],
+    targets: &[Facts<A>],
+    otherwise: Otherwise,
+) -> Result<Vec<Option<bool>, A>, AllocError> {
+    let mut values = Vec::new(alloc);
+    let batches = indexed_batches(alloc, targets)?;
+    let batches = batches.as_slice();
+    for condition in conditions {
+        push_batches(alloc, batches, otherwise, condition, &mut values)?;
+    }
+    Ok(values)
+}
+
 /// Reads a text, and pushes its value on each target.
 fn push_text<'a, A: SmallAllocator>(
     alloc: A,

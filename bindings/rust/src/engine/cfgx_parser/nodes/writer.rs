@@ -56,6 +56,7 @@ pub(crate) struct NodeWriter<A: SmallAllocator> {
 
 impl<A: SmallAllocator> NodeWriter<A> {
     /// Returns a writer that has written nothing of a text of `len` bytes.
+    #[inline(always)]
     pub(crate) fn new(alloc: A, len: usize) -> Self {
         NodeWriter {
             nodes: SmallVec::new(alloc),
@@ -134,7 +135,10 @@ impl<A: SmallAllocator> NodeWriter<A> {
     /// Writes the node of a function that begins, and returns where it begins. `end_function`
     /// completes the node.
     pub(crate) fn begin_function(&mut self) -> Result<Opening, AllocError> {
-        let node = self.push_node(ExprNode::Fn(Func::Not))?;
+        let node = self.push_node(ExprNode::Fn {
+            func: Func::Not,
+            len: 0,
+        })?;
         let waiting = self.waiting_count;
         Ok(Opening { node, waiting })
     }
@@ -177,7 +181,8 @@ impl<A: SmallAllocator> NodeWriter<A> {
     fn complete(&mut self, place: usize, func: Func) {
         // Always true: the node was written when the function began.
         if place < self.node_count {
-            self.nodes[place] = ExprNode::Fn(func);
+            let len = self.node_count - place;
+            self.nodes[place] = ExprNode::Fn { func, len };
         }
     }
 

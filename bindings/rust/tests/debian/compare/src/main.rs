@@ -1,16 +1,18 @@
 //! usage: `compare PARTS TARGETS`
 //!
-//! Asks each triple that the parts of triples make for each value of each key, over `cfg-expr` and
-//! over `cfgx`, and ends with status 1 if an answer differs. PARTS has the parts, and TARGETS the
-//! values, as `bindings/targets/targets.tsv` has them. Beside these, each part is asked for, and
-//! texts that are no value. Then it prints, for each built-in target whose triple both know, the
-//! predicates in which the row of the target differs from its triple over `cfg-expr`.
+//! Compares the built-in targets and the named values of `cfg-expr` and of `cfgx`. Then it asks
+//! each triple that the parts of triples make for each value of each key, over both. It ends with
+//! status 1 if one of all these differs. PARTS has the parts, and TARGETS the values, as
+//! `bindings/targets/cfg-expr/targets.tsv` has them. Beside these, each part is asked for, and
+//! texts that are no value. For each built-in target whose triple is known, it prints the
+//! predicates in which the row of the target differs from its triple, both over `cfg-expr`.
 
 use cfg_expr::target_lexicon::{
     Architecture, CustomVendor, Environment, OperatingSystem, Triple, Vendor,
 };
 use std::collections::BTreeMap;
 use std::error::Error;
+use std::fmt::Debug;
 use std::str::FromStr;
 use std::{env, fs};
 
@@ -45,10 +47,10 @@ impl Question {
         self.is_of_target && !UNSAID.iter().any(is_unsaid)
     }
 
-    /// Returns the answer of a triple over `cfg-expr`.
-    fn answer_there(&self, triple: &Triple) -> bool {
+    /// Returns the answer of a target over `cfg-expr`.
+    fn answer_there(&self, target: &impl cfg_expr::expr::TargetMatcher) -> bool {
         self.there.eval(|predicate| match predicate {
-            cfg_expr::Predicate::Target(asked) => asked.matches(triple),
+            cfg_expr::Predicate::Target(asked) => asked.matches(target),
             _ => false,
         })
     }
@@ -195,21 +197,115 @@ fn compare(questions: &[Question], triples: &[Triple]) -> (usize, usize) {
 /// The keys of which a triple says nothing: each predicate on one of them is false of it.
 const UNSAID: [&str; 3] = ["target_abi", "target_has_atomic", "panic"];
 
-/// Prints in which predicates the row of each built-in target differs from its triple, but for
-/// those keys.
+/// Prints in which predicates the row of each built-in target differs from its triple over
+/// `cfg-expr`, but for those keys.
 fn print_rows(questions: &[Question]) {
-    for target in cfgx::targets::ALL_BUILTINS {
+    for target in cfg_expr::targets::ALL_BUILTINS {
         let Ok(triple) = target.triple.as_str().parse::<Triple>() else {
             println!("row\t{}\tis not known", target.triple);
             continue;
         };
         for question in questions.iter().filter(|one| one.is_said()) {
-            let (row, there) = (question.answer_here(target), question.answer_there(&triple));
-            if row != there {
-                println!("row\t{}\t{}\t{row}\t{there}", target.triple, question.text);
+            let answers = (
+                question.answer_there(target),
+                question.answer_there(&triple),
+            );
+            if answers.0 != answers.1 {
+                let (by_row, by_triple) = answers;
+                println!(
+                    "row\t{}\t{}\t{by_row}\t{by_triple}",
+                    target.triple, question.text
+                );
             }
         }
     }
+}
+
+/// Makes a function that returns the name of each named value, and its text in both crates.
+macro_rules! named_values {
+    ($($field:ident::$name:ident $text:literal,)*) => {
+        fn named_values() -> Vec<[String; 3]> {
+            vec![$([
+                String::from(concat!(stringify!($field), "::", stringify!($name))),
+                cfg_expr::targets::$field::$name.0.to_string(),
+                cfgx::targets::$field::$name.0.to_string(),
+            ]),*]
+        }
+    };
+}
+
+include!("../../../surface/named_values.rs");
+
+/// Makes a function that returns the name of each named list, and what it prints in both crates.
+macro_rules! named_lists {
+    ($($list:ident::$name:ident,)*) => {
+        fn named_lists() -> Vec<[String; 3]> {
+            vec![$([
+                String::from(concat!(stringify!($list), "::", stringify!($name))),
+                format!("{:?}", cfg_expr::targets::$list::$name),
+                format!("{:?}", cfgx::targets::$list::$name),
+            ]),*]
+        }
+    };
+}
+
+named_lists! {
+    Families::unix,
+    Families::unix_wasm,
+    Families::wasm,
+    Families::windows,
+    HasAtomics::atomic_8_16_32_64_128_ptr,
+    HasAtomics::atomic_8_16_32_64_ptr,
+    HasAtomics::atomic_8_16_32_ptr,
+}
+
+/// Returns what `Debug` shows of each item, which is each field of a target.
+fn shown<T: Debug>(items: impl IntoIterator<Item = T>) -> Vec<String> {
+    items.into_iter().map(|item| format!("{item:?}")).collect()
+}
+
+/// Returns an error unless the built-in targets, how they are found, the version and the named
+/// values are the same in both crates.
+fn compare_builtins() -> Result<(), Box<dyn Error>> {
+    use {cfg_expr::targets as there, cfgx::targets as here};
+    let rows = [shown(there::ALL_BUILTINS), shown(here::ALL_BUILTINS)];
+    if let Some((one, other)) = rows[0]
+        .iter()
+        .zip(&rows[1])
+        .find(|(one, other)| one != other)
+    {
+        return Err(format!("a row differs: {one} there, {other} here").into());
+    }
+    let triples = there::ALL_BUILTINS
+        .iter()
+        .map(|target| target.triple.as_str());
+    let triples: Vec<&str> = triples.chain(OTHERS).collect();
+    let found = [
+        shown(
+            triples
+                .iter()
+                .map(|one| there::get_builtin_target_by_triple(one)),
+        ),
+        shown(
+            triples
+                .iter()
+                .map(|one| here::get_builtin_target_by_triple(one)),
+        ),
+    ];
+    let versions = [there::rustc_version(), here::rustc_version()];
+    if rows[0].len() != rows[1].len() || found[0] != found[1] || versions[0] != versions[1] {
+        return Err("the number of rows, a lookup or the version differs".into());
+    }
+    let named = [named_values(), named_lists()].concat();
+    if let Some([name, one, other]) = named.iter().find(|[_, one, other]| one != other) {
+        return Err(format!("{name} is {one} there, {other} here").into());
+    }
+    let (rows, named) = (rows[1].len(), named.len());
+    println!(
+        "{rows} built-in targets of rustc {} and {named} named values",
+        versions[1]
+    );
+    Ok(())
 }
 
 fn main() -> Result<(), Box<dyn Error>> {
@@ -220,6 +316,7 @@ fn main() -> Result<(), Box<dyn Error>> {
     let [parts_text, targets] = &files[..] else {
         return Err("usage: compare PARTS TARGETS".into());
     };
+    compare_builtins()?;
     let parts = Parts::read(parts_text)?;
     let questions = questions_of(targets, parts_text);
     let (count, different) = compare(&questions, &parts.triples()?);

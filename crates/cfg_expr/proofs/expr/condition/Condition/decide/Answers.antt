@@ -2,7 +2,7 @@
 use Rattle.std.proofs.{Common.◌∙◌, Common.ap, Common.length, lemmas.Result.on_ok_weaker}
 use Rattle.cfgx_grammar.specs.Tree.{asked}
 use Rattle.cfgx_grammar.proofs.Answering.{only_tree}
-use Rattle.cfg_expr.proofs.Exactness.{IsExact-fold}
+use Rattle.cfg_expr.proofs.Exactness.{HoldsFillingsOf-decision, IsExact-fold}
 use Rattle.cfg_expr.proofs.expr.condition.Condition.decide.Goals as goal
 
 pub returns-clause-exact : goal.returns-clause-exact
@@ -13,11 +13,13 @@ pub returns-clause-decision : goal.returns-clause-decision
 returns-clause-decision g c =
     let given = c.requires in
     on_ok_weaker c.decide.result (λ decided.
-    let same = only_tree decided.0 given.0 given.1 in (
+    let all = given.2
+    ∙ ap (λ tree. length (asked tree)) (only_tree decided.0 given.0 given.1) in (
       decided.0,
       record {
         is = decided.1;
-        exact = IsExact-fold decided.0.tree c.args.answers.now
-            (given.2 ∙ ap (λ tree. length (asked tree)) same);
+        fillings = HoldsFillingsOf-decision decided.0.tree c.args.answers.now all
+            c.decide.new.decision decided.1;
+        exact = IsExact-fold decided.0.tree c.args.answers.now all;
       },
     )) c.decide.ensures.decision

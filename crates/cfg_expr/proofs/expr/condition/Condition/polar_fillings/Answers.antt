@@ -8,4 +8,6 @@ returns-in-Known-clause-fillings g c =
 
 pub returns-in-Unknown-clause-fillings : goal.returns-in-Unknown-clause-fillings
 returns-in-Unknown-clause-fillings g c =
-    let decided = rw c.in-Unknown.is at c.in_ok-decide.ensures.decision in (decided.0, decided.1.is)
+    let (one, exactly) = rw c.in-Unknown.is at c.in_ok-decide.ensures.decision in
+    let (unknown, first, second) = exactly.is in
+    (one, (unknown, first, second, exactly.fillings.0, exactly.fillings.1))
