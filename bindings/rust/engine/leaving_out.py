@@ -3,19 +3,11 @@
 It works on tokens, and knows each form that it leaves out. What it does not know, it refuses.
 """
 import re
-from typing import Callable, Dict, FrozenSet, Iterator, List, NamedTuple, Set, Tuple
+from typing import Callable, Collection, Dict, Iterator, List, NamedTuple, Set, Tuple
 
-# What stands in the place of Rattle's library, and the modules of its `std` that Rust's has not.
+# What stands in the place of Rattle's library.
 LIBRARY = "crate::engine::rattle"
-OWN_MODULES = frozenset({"alloc", "borrow"})
-SAME_MODULES = frozenset({"cmp", "fmt", "hash", "io", "marker", "mem", "ops", "str"})
-# What each file of Rattle has without an import, and Rust's has not: names, and the traits of
-# methods of a formatter.
-PRELUDE_NAMES = frozenset({"String", "Vec", "vec"})
-FORMATTER_TRAITS = {"slice": "ListExt", "write": "FormatterExt"}
 
-ATTRIBUTES = frozenset({"cold", "default", "inline"})
-MACROS = frozenset({"matches", "unreachable", "write"})
 # What Rust has not, or means otherwise, or what the engine does without.
 REFUSED = frozenset({
     "\"", "'", "/*", "Box", "also_owns", "also_shares", "async", "await", "decreases", "dyn",
@@ -26,6 +18,7 @@ REFUSED_METHODS = frozenset({
     "clone", "cloned", "collect", "concat", "repeat", "replace", "replacen", "to_owned",
     "to_string", "to_vec",
 })
+ATTRIBUTES = frozenset({"cold", "default", "inline"})
 PAIRS = {"(": ")", "[": "]", "{": "}"}
 
 TOKEN = re.compile(r"""
@@ -61,11 +54,25 @@ def tokens_of(text: str) -> List[Token]:
 
 
 class Reader:
-    """A file that is read from its first token to its last. Places count tokens of code alone."""
+    """A file of a crate, which is read from its first token to its last.
 
-    def __init__(self, name: str, text: str, crates: FrozenSet[str], crate: str,
-                 modules: FrozenSet[str]) -> None:
-        self.name, self.crates, self.crate, self.modules = name, crates, crate, modules
+    `crates` are the crates that are made, and `modules` those that are not needed. Places count
+    tokens of code alone.
+    """
+
+    macros = frozenset({"matches", "unreachable", "write"})
+    # The modules of `std` that Rust has too, and those that the library has.
+    same_modules = frozenset({"cmp", "fmt", "hash", "io", "marker", "mem", "ops", "str"})
+    own_modules = frozenset({"alloc", "borrow"})
+    # What each file of Rattle has without an import, and Rust's has not: names, and the traits of
+    # methods, those of formatters in files that name one.
+    prelude = frozenset({"String", "Vec", "vec"})
+    traits: Dict[str, str] = {}
+    formatter_traits = {"slice": "ListExt", "write": "FormatterExt"}
+
+    def __init__(self, name: str, text: str, crate: str, crates: Collection[str],
+                 modules: Collection[str]) -> None:
+        self.name, self.crate, self.crates, self.modules = name, crate, crates, modules
         self.tokens = tokens_of(text)
         self.kept = [token.text for token in self.tokens]
         self.code = [index for index, token in enumerate(self.tokens)
@@ -311,7 +318,7 @@ class Reader:
         if name == "prove" and self.text(end) == ";":
             self.unasked |= {self.text(place) for place in range(at, end) if self.is_word(place)}
             return self.leave_out_with_comment(at, end + 1)
-        if name in MACROS or name == "vec" and self.has(at + 2, "[", "in"):
+        if name in self.macros or name == "vec" and self.has(at + 2, "[", "in"):
             return at + 2
         raise self.refuse(at, f"the macro `{name}` is not known")
 
@@ -334,11 +341,11 @@ class Reader:
         """A path into `std`, to modules that Rust has too or to those of the library"""
         if self.text(at + 2) == "{":
             names = {self.text(place) for place in range(at + 3, self.behind_pair(at + 2) - 1)}
-            if not names - {",", "::", "self"} <= SAME_MODULES:
+            if not names - {",", "::", "self"} <= self.same_modules:
                 raise self.refuse(at, "a group of modules of `std` that are not known")
-        elif self.text(at + 2) in OWN_MODULES:
+        elif self.text(at + 2) in self.own_modules:
             self.kept[self.code[at]] = LIBRARY
-        elif self.text(at + 2) not in SAME_MODULES:
+        elif self.text(at + 2) not in self.same_modules:
             raise self.refuse(at, f"the module `{self.text(at + 2)}` of `std` is not known")
 
     def read(self, at: int) -> int:
@@ -401,9 +408,8 @@ class Reader:
     def import_prelude(self) -> None:
         """Imports what the code asks of the prelude, behind the last import"""
         words = self.kept_words()
-        names = words & PRELUDE_NAMES
-        if "Formatter" in words:
-            names |= {trait for method, trait in FORMATTER_TRAITS.items() if method in self.called}
+        traits = {**self.traits, **(self.formatter_traits if "Formatter" in words else {})}
+        names = words & self.prelude | {traits[method] for method in self.called & set(traits)}
         ends = [end for _, end in self.imports()]
         if names and not ends:
             raise self.refuse(0, "a file that asks for the prelude has no import")
@@ -412,16 +418,11 @@ class Reader:
             self.kept[self.code[ends[-1] - 1]] += f"\n{line}"
 
 
-def rust_of(name: str, text: str, crate: str, crates: FrozenSet[str],
-            modules: FrozenSet[str] = frozenset()) -> str:
-    """Returns the Rust of a file of a crate: its text without contracts.
-
-    `crates` are the crates that are made, and `modules` those that this one does without.
-    """
-    reader = Reader(name, text, crates, crate, modules)
-    at = 0
-    while at < len(reader.code):
-        at = reader.read(at)
-    reader.leave_out_imports()
-    reader.import_prelude()
-    return "".join(reader.kept)
+    def rust(self) -> str:
+        """Returns the Rust of the file: its text without contracts."""
+        at = 0
+        while at < len(self.code):
+            at = self.read(at)
+        self.leave_out_imports()
+        self.import_prelude()
+        return "".join(self.kept)

@@ -2,14 +2,12 @@
 import re
 import unittest
 
-from leaving_out import Refused, rust_of
-
-CRATES = frozenset({"cfgx_one", "cfgx_two"})
+from leaving_out import Reader, Refused
 
 
 def made(text):
     """Returns the Rust of a text of the crate `cfgx_one`."""
-    return rust_of("file.rt", text, "cfgx_one", CRATES, frozenset({"laws"}))
+    return Reader("file.rt", text, "cfgx_one", ("cfgx_one", "cfgx_two"), ("laws",)).rust()
 
 
 def words(text):
