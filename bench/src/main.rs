@@ -116,8 +116,8 @@ fn time_of(call: impl FnOnce()) -> u128 {
 }
 
 /// Returns how many nanoseconds calls of each kind take for all lines together: to parse, to
-/// evaluate over `bool` and over `Option<bool>`, to list predicates, to list tokens, to clone and to
-/// drop.
+/// evaluate over `bool` and over `Option<bool>`, to list predicates, to list tokens, to clone and
+/// to drop.
 fn times_of(lines: &[&str], target: &TargetInfo) -> [u128; 7] {
     let mut parsed = Vec::with_capacity(lines.len());
     let mut cloned = Vec::with_capacity(lines.len());

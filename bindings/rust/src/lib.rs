@@ -10,8 +10,9 @@
 //! ```
 //!
 //! Its engine is proved in Rattle, which is Rust with contracts, and stands in this crate without
-//! these contracts, compiled by rustc: [`Expression`], [`Lexer`](expr::lexer::Lexer) and [`audit()`]
-//! call it. Targets and their fields are code of this crate, which is tested, and not proved.
+//! these contracts, compiled by rustc. [`Expression`], [`Lexer`](expr::lexer::Lexer) and
+//! [`audit()`] call it. Targets and their fields are code of this crate, which is tested, and not
+//! proved.
 //!
 //! ```
 //! use cfgx as cfg_expr;

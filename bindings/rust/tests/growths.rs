@@ -104,8 +104,8 @@ fn a_call_with_a_refused_growth() {
     }
 }
 
-/// Makes the call in a process of its own. Returns the number of bytes that its end names, or `None`
-/// if the call asks for no growth with this number. Panics if it returns all the same.
+/// Makes the call in a process of its own. Returns the number of bytes that its end names, or
+/// `None` if the call asks for no growth with this number. Panics if it returns all the same.
 fn bytes_named(name: &str, growth: usize) -> Option<usize> {
     let output = child::command_of("a_call_with_a_refused_growth")
         .env("CFGX_TEST_CALL", name)
@@ -126,7 +126,8 @@ fn bytes_named(name: &str, growth: usize) -> Option<usize> {
 }
 
 /// Each call, and a number of bytes that is named if a growth is refused: if it is one of the
-/// engine, that of the text or of the facts which it was passed. `None` if the call takes no memory.
+/// engine, that of the text or of the facts which it was passed. `None` if the call takes no
+/// memory.
 const CALLS: &[(&str, Option<usize>)] = &[
     ("parse", Some(CONDITION.len())),
     ("parse a faulty text", Some(FAULTY.len())),
