@@ -1,5 +1,6 @@
 -- The text that is read is the one that was passed, and its value is exact.
-use Rattle.std.proofs.Common.{◌∙◌, sym}
+use Rattle.std.proofs.Common.{◌∙◌, arith, sym}
+use Rattle.std.proofs.lemmas.Grind.{common_steps}
 use Rattle.cfgx_c.proofs.DecideLemmas.{DecidesOver-known, DecidesOver-unknown}
 use Rattle.cfgx_c.proofs.decide.cfgx_decide.Goals as goal
 
@@ -17,6 +18,12 @@ returns-in-Ok-fill_fillings-clause-done c is =
     (DecidesOver-unknown c.in-Ok.condition c.args.answers.now c.in-Ok.ensures.counted
     c.args.fillings.now c.fill_fillings.new.buffer c.in-Ok-fill_fillings.count found
     c.in-Ok-fill_fillings.ensures.ok)
+
+-- no text that cannot be read has this status
+pub returns-in-Err-clause-done : goal.returns-in-Err-clause-done
+returns-in-Err-clause-done c is = absurd (
+    let status = sym c.report.ensures.status ∙ is in
+    let fails = c.in-Err.ensures.err.fails in grind (arith, common_steps))
 
 pub returns-in-Err-clause-miscounted : goal.returns-in-Err-clause-miscounted
 returns-in-Err-clause-miscounted c is =

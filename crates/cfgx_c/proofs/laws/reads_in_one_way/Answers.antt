@@ -13,7 +13,7 @@ pub returns-clause-utf8 : goal.returns-clause-utf8
 returns-clause-utf8 c = no_utf8
 
 pub returns-clause-no_fact_fault : goal.returns-clause-no_fact_fault
-returns-clause-no_fact_fault c fact fault is (utf8, (not_read, found)) = not_read is.1
+returns-clause-no_fact_fault c fact fault is has = has.1.0 is.1
 
 pub returns-clause-fact_fault_utf8 : goal.returns-clause-fact_fault_utf8
 returns-clause-fact_fault_utf8 c fact fault other has = no_utf8 fact other has.0

@@ -7,7 +7,7 @@ use Rattle.cfgx_c.proofs.tokens.fill_tokens.Goals.{else-count-buffer, then-count
 
 pub returns-clause-ok : goal.returns-clause-ok
 returns-clause-ok c =
-    let (tokens, has, counted) = c.in_ok-count.ensures in (
+    let (tokens, has, counted) = c.in_ok-count.ensures.ok in (
       tokens,
       has,
       (
