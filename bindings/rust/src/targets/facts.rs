@@ -9,8 +9,8 @@ use crate::audit::Facts;
 ///
 /// Those of a target of rustc 1.95.0 are the lines that this compiler prints to Cargo, but for
 /// `proc_macro`, which Cargo ignores. For some targets [`Rustc`](super::Rustc) has one more fact,
-/// `target_feature="crt-static"`: the compiler does not print it to Cargo. Those of another built-in
-/// target are what its fields say: no target feature, and not `debug_assertions`.
+/// `target_feature="crt-static"`: the compiler does not print it to Cargo. Those of another
+/// built-in target are what its fields say: no target feature, and not `debug_assertions`.
 ///
 /// ```
 /// use cfgx::targets::builtin_facts;
@@ -35,8 +35,8 @@ pub fn builtin_facts(triple: &str) -> Option<Facts> {
     Some(Facts::new(lines))
 }
 
-/// Returns the target with this triple, as rustc 1.95.0 describes it or else as it is built in, with
-/// whether `debug_assertions` is printed for it, and its target features.
+/// Returns the target with this triple, as rustc 1.95.0 describes it or else as it is built in,
+/// with whether `debug_assertions` is printed for it, and its target features.
 fn described(triple: &str) -> Option<(&'static TargetInfo, (bool, &'static str))> {
     let find = |targets: &'static [TargetInfo], facts: &[(bool, &'static str)]| {
         place_in(targets, triple).map(|place| (&targets[place], facts[place]))
