@@ -151,7 +151,7 @@ others    of the libraries for other platforms, beside the clang, lld and llvm-a
             (PACKAGE, f"for Node {node} or later and for browsers,"),
             *((wheel_for(systems), f"The package for Python {python} or later,")
               for systems, *_ in WHEELS),
-            (f"{RUST}.tar.gz", f"package `cfg-expr` {number} over it, for Rust {rust} or later."),
+            (f"{RUST}.tar.gz", f"package `cfg-expr` {number} over it, for Rust {rust} or later,"),
         ):
             self.assertIn(said, texts[name].replace("\n", " "))
         self.assertNotIn("@", "".join([sections()[0], *texts.values()]))
